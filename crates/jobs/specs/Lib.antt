@@ -1,0 +1,9 @@
+pub mod Bytes
+pub mod Faults
+pub mod Format
+pub mod Jobs
+pub mod Line
+pub mod Members
+pub mod Numbers
+pub mod Ranges
+pub mod Replies

@@ -1,0 +1,47 @@
+-- Which matrices belong to the group of a job, and the lines that say so.
+--     InGroup k n m       m has the congruences modulo n that define the group of kind k
+--     IsMember j m        m, or its mirrored matrix where the job is mirrored, is in the group of the job j
+--     Answers j text      the text has a line for each matrix of the job: member=yes or member=no
+use mathlib.Core.Path.{_≡_}
+use mathlib.Core.Bool.{Bool, true, false}
+use mathlib.Core.List.{List, [], _∷_, _++_}
+use Prim.Native.Nat.{ℕ}
+use lib.Chars.{codes}
+use lib.IntN.{pos, negℤ}
+use Rattle.std.specs.Orderings.{Decides}
+use Rattle.modular.specs.Matrix.{M2}
+use Rattle.numbers.specs.Residues.{Cong}
+use Rattle.jobs.specs.Jobs.{Task}
+use Rattle.jobs.specs.declared.job.Kind.{Kind}
+use Rattle.jobs.specs.declared.job.Kind.the-variants.{Lines, Vectors, Matrices}
+
+abbrev pub InGroup : Kind → ℕ → M2 → Type 0
+InGroup Lines n m = Cong n (m .c) (pos 0)
+InGroup Vectors n m = Cong n (m .c) (pos 0) × Cong n (m .d) (pos 1)
+InGroup Matrices n m = Cong n (m .a) (pos 1) × Cong n (m .b) (pos 0) × Cong n (m .c) (pos 0) × Cong n (m .d) (pos 1)
+
+-- a, −b, −c, d
+abbrev pub mirrored : M2 → M2
+mirrored m = record { a = m .a; b = negℤ (m .b); c = negℤ (m .c); d = m .d }
+
+abbrev pub seen : Bool → M2 → M2
+seen true m = mirrored m
+seen false m = m
+
+abbrev pub IsMember : Task → M2 → Type 0
+IsMember j m = InGroup (j .kind) (j .level) (seen (j .mirror) m)
+
+abbrev pub answerLine : Bool → List ℕ
+answerLine true = codes "member=yes" ++ 10 ∷ []
+answerLine false = codes "member=no" ++ 10 ∷ []
+
+-- the line yes where G holds of m, and the line no where it does not
+abbrev pub Answer : (M2 → Type 0) → M2 → List ℕ → Type 0
+Answer G m line = (b : Bool) × Decides b (G m) × (line ≡ answerLine b)
+
+abbrev pub AnswerAll : (M2 → Type 0) → List M2 → List ℕ → Type 0
+AnswerAll G [] text = text ≡ []
+AnswerAll G (m ∷ ms) text = (line : List ℕ) × (rest : List ℕ) × (text ≡ line ++ rest) × Answer G m line × AnswerAll G ms rest
+
+abbrev pub Answers : Task → List ℕ → Type 0
+Answers j text = AnswerAll (IsMember j) (j .matrices) text

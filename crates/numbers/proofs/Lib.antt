@@ -1,0 +1,4 @@
+pub mod Congruence
+pub mod Divided
+pub mod Integers
+pub mod Ring
