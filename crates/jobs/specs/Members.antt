@@ -7,9 +7,10 @@ use mathlib.Core.Bool.{Bool, true, false}
 use mathlib.Core.List.{List, [], _∷_, _++_}
 use Prim.Native.Nat.{ℕ}
 use lib.Chars.{codes}
-use lib.IntN.{pos, negℤ}
+use lib.IntN.{pos}
 use Rattle.std.specs.Orderings.{Decides}
 use Rattle.modular.specs.Matrix.{M2}
+use Rattle.modular.specs.Mirror.{mirrored}
 use Rattle.numbers.specs.Residues.{Cong}
 use Rattle.jobs.specs.Jobs.{Task}
 use Rattle.jobs.specs.declared.job.Kind.{Kind}
@@ -20,10 +21,7 @@ InGroup Lines n m = Cong n (m .c) (pos 0)
 InGroup Vectors n m = Cong n (m .c) (pos 0) × Cong n (m .d) (pos 1)
 InGroup Matrices n m = Cong n (m .a) (pos 1) × Cong n (m .b) (pos 0) × Cong n (m .c) (pos 0) × Cong n (m .d) (pos 1)
 
--- a, −b, −c, d
-abbrev pub mirrored : M2 → M2
-mirrored m = record { a = m .a; b = negℤ (m .b); c = negℤ (m .c); d = m .d }
-
+-- the matrix that is asked about: a, −b, −c, d where the job is mirrored
 abbrev pub seen : Bool → M2 → M2
 seen true m = mirrored m
 seen false m = m

@@ -1,3 +1,9 @@
 pub mod Entries
+pub mod Forms
+pub mod Layers
+pub mod Members
 pub mod Products
+pub mod Reaching
+pub mod Rows
+pub mod Through
 pub mod Wide

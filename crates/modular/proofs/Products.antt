@@ -8,7 +8,7 @@ use Rattle.modular.specs.Matrix.{M2, identity, det, _·_, inverted, Undoes}
 use Rattle.modular.specs.Words.{ofLetter, matrix}
 
 -- two matrices with equal entries are equal
-same : (x y : M2) → x .a ≡ y .a → x .b ≡ y .b → x .c ≡ y .c → x .d ≡ y .d → x ≡ y
+pub same : (x y : M2) → x .a ≡ y .a → x .b ≡ y .b → x .c ≡ y .c → x .d ≡ y .d → x ≡ y
 same x y p q r s = λ i. record { a = p i; b = q i; c = r i; d = s i }
 
 -- an entry of a product of three is the same from the left and from the right
@@ -24,16 +24,16 @@ product-assoc x y z = same ((x · y) · z) (x · (y · z))
     (entry-assoc (x .c) (x .d) (y .a) (y .b) (y .c) (y .d) (z .a) (z .c))
     (entry-assoc (x .c) (x .d) (y .a) (y .b) (y .c) (y .d) (z .b) (z .d))
 
-one-left : (p q : ℤ) → pos 1 *ℤ p +ℤ pos 0 *ℤ q ≡ p
+pub one-left : (p q : ℤ) → pos 1 *ℤ p +ℤ pos 0 *ℤ q ≡ p
 one-left = solve 2 (λ p q. con (pos 1) ⊗ p ⊕ con (pos 0) ⊗ q ≐ p) tt
 
-one-right : (p q : ℤ) → p *ℤ pos 1 +ℤ q *ℤ pos 0 ≡ p
+pub one-right : (p q : ℤ) → p *ℤ pos 1 +ℤ q *ℤ pos 0 ≡ p
 one-right = solve 2 (λ p q. p ⊗ con (pos 1) ⊕ q ⊗ con (pos 0) ≐ p) tt
 
-zero-left : (p q : ℤ) → pos 0 *ℤ p +ℤ pos 1 *ℤ q ≡ q
+pub zero-left : (p q : ℤ) → pos 0 *ℤ p +ℤ pos 1 *ℤ q ≡ q
 zero-left = solve 2 (λ p q. con (pos 0) ⊗ p ⊕ con (pos 1) ⊗ q ≐ q) tt
 
-zero-right : (p q : ℤ) → p *ℤ pos 0 +ℤ q *ℤ pos 1 ≡ q
+pub zero-right : (p q : ℤ) → p *ℤ pos 0 +ℤ q *ℤ pos 1 ≡ q
 zero-right = solve 2 (λ p q. p ⊗ con (pos 0) ⊕ q ⊗ con (pos 1) ≐ q) tt
 
 pub identity-left : (x : M2) → identity · x ≡ x

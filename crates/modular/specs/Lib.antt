@@ -1,2 +1,9 @@
+pub mod Acting
+pub mod Actions
+pub mod Inverses
 pub mod Matrix
+pub mod Mirror
+pub mod MirrorLaws
+pub mod Pair
+pub mod PairLaws
 pub mod Words
