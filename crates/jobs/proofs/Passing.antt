@@ -9,9 +9,10 @@ use Rattle.std.specs.declared.result.Result.{Result}
 use Rattle.std.specs.declared.result.Result.the-variants.{Ok, Err}
 use Rattle.modular.specs.Matrix.{M2}
 use Rattle.jobs.specs.Bytes.{Keyed}
-use Rattle.jobs.specs.Format.{MatrixLine}
+use Rattle.jobs.specs.Format.{MatrixLine, LevelSaid, LevelLine, LevelFault, IsLevel}
 use Rattle.jobs.specs.Faults.{numberOf}
 use Rattle.jobs.specs.Jobs.{Passed, onLine, Head, FirstFault, in-matrix, Reads, ReadsMatrices}
+use Rattle.jobs.specs.Line.{range}
 use Rattle.jobs.specs.declared.fault.Fault.{Fault}
 use Rattle.jobs.specs.declared.fault.Refusal.{Refusal}
 use Rattle.jobs.specs.declared.fault.Error.{Error}
@@ -51,3 +52,10 @@ pub matrices-fault : (text : List ℕ) (k : Kind) (l : ℕ) (b : Bool) (past : L
 matrices-fault text k l b past short h (Refused f) m =
     subst (λ line. FirstFault text (numberOf (f .fault)) line) (sym (m .5)) (in-matrix _ k l b past (m .1) (m .0) short h (m .2) (m .3) (m .4))
 matrices-fault text k l b past short h Memory m = tt
+
+-- a number that is said is a level where there is such a level, and else out of range
+pub level-said : (text : List ℕ) (n k : ℕ) (rest : List ℕ) → LevelSaid text n rest → k ≡ n → IsLevel k → LevelLine text k rest
+level-said text n k rest l e h = record { body = l .body; keyed = l .keyed; says = (l .says .0, e ∙ l .says .1); range = h; made = l .made }
+
+pub no-level : (text : List ℕ) (n : ℕ) (rest : List ℕ) → LevelSaid text n rest → (IsLevel n → ⊥) → LevelFault text 3
+no-level text n rest l f = range (l .body) rest n (l .keyed) (l .says) f

@@ -41,6 +41,10 @@ IsLevel n = (1 ≤ n) × (n ≤ 200)
 abbrev pub LevelLine : List ℕ → ℕ → List ℕ → Type 0
 LevelLine = Line (codes "level=") 2 SaysLevel IsLevel Never
 
+-- the line says a number, which need not be a level
+abbrev pub LevelSaid : List ℕ → ℕ → List ℕ → Type 0
+LevelSaid = Line (codes "level=") 2 SaysLevel Any Never
+
 abbrev pub LevelFault : List ℕ → ℕ → Type 0
 LevelFault = Fault (codes "level=") 2 SaysLevel IsLevel Never
 

@@ -15,6 +15,7 @@ use Rattle.std.specs.declared.result.Result.the-variants.{Ok, Err}
 use Rattle.modular.specs.Matrix.{M2, entries}
 use Rattle.jobs.specs.Faults.{numberOf}
 use Rattle.jobs.specs.Format.{KindLine, KindFault, LevelLine, LevelFault, MirrorLine, MirrorFault, MatrixLine, MatrixFaulty}
+use Rattle.jobs.specs.Objects.{kindOf, levelOf}
 use Rattle.jobs.specs.declared.job.Kind.{Kind}
 use Rattle.jobs.specs.declared.job.Job.{Job}
 use Rattle.jobs.specs.declared.fault.Fault.{Fault}
@@ -30,7 +31,7 @@ pub record Task : Type 0 where
   pub matrices : List M2
 
 abbrev pub task : Job → Task
-task j = record { kind = j .kind; level = j .level; mirror = j .mirror; matrices = map entries (vec-items (j .matrices)) }
+task j = record { kind = kindOf (j .object); level = levelOf (j .object); mirror = j .mirror; matrices = map entries (vec-items (j .matrices)) }
 
 -- the first three lines of a text, and what comes after them
 pub record Head (text : List ℕ) (k : Kind) (l : ℕ) (b : Bool) (rest : List ℕ) : Type 0 where

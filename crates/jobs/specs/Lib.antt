@@ -5,5 +5,6 @@ pub mod Jobs
 pub mod Line
 pub mod Members
 pub mod Numbers
+pub mod Objects
 pub mod Ranges
 pub mod Replies

@@ -1,6 +1,6 @@
 -- Which matrices belong to the group of a job, and the lines that say so.
 --     InGroup k n m       m has the congruences modulo n that define the group of kind k
---     IsMember j m        m, or its mirrored matrix where the job is mirrored, is in the group of the job j
+--     IsMember j m        m is a member of the action of the job j: that of its kind at its level, or the mirror above that
 --     Answers j text      the text has a line for each matrix of the job: member=yes or member=no
 use mathlib.Core.Path.{_≡_}
 use mathlib.Core.Bool.{Bool, true, false}
@@ -10,7 +10,11 @@ use lib.Chars.{codes}
 use lib.IntN.{pos}
 use Rattle.std.specs.Orderings.{Decides}
 use Rattle.modular.specs.Matrix.{M2}
-use Rattle.modular.specs.Mirror.{mirrored}
+use Rattle.modular.specs.Actions.{Member, lead}
+use Rattle.modular.specs.Inverses.{backT, backS}
+use Rattle.levels.specs.Lines as lines
+use Rattle.levels.specs.Matrices as matrices
+use Rattle.levels.specs.Vectors as vectors
 use Rattle.numbers.specs.Residues.{Cong}
 use Rattle.jobs.specs.Jobs.{Task}
 use Rattle.jobs.specs.declared.job.Kind.{Kind}
@@ -21,13 +25,19 @@ InGroup Lines n m = Cong n (m .c) (pos 0)
 InGroup Vectors n m = Cong n (m .c) (pos 0) × Cong n (m .d) (pos 1)
 InGroup Matrices n m = Cong n (m .a) (pos 1) × Cong n (m .b) (pos 0) × Cong n (m .c) (pos 0) × Cong n (m .d) (pos 1)
 
--- the matrix that is asked about: a, −b, −c, d where the job is mirrored
-abbrev pub seen : Bool → M2 → M2
-seen true m = mirrored m
-seen false m = m
+-- the members of an action, or of its mirror
+abbrev pub SeenMember : {R : Type 0} → Bool → R → (R → R) → (R → R) → M2 → Type 0
+SeenMember false start t s m = Member start t s m
+SeenMember true start t s m = Member start (lead t s backT) (lead t s backS) m
+
+-- the members of the action of a kind at a level, or of its mirror
+abbrev pub ActionMember : Kind → ℕ → Bool → M2 → Type 0
+ActionMember Lines n b = SeenMember b (vectors.first n) (lines.sheared n) (lines.turned n)
+ActionMember Vectors n b = SeenMember b (vectors.first n) (vectors.sheared n) (vectors.turned n)
+ActionMember Matrices n b = SeenMember b (matrices.first n) (matrices.sheared n) (matrices.turned n)
 
 abbrev pub IsMember : Task → M2 → Type 0
-IsMember j m = InGroup (j .kind) (j .level) (seen (j .mirror) m)
+IsMember j m = ActionMember (j .kind) (j .level) (j .mirror) m
 
 abbrev pub answerLine : Bool → List ℕ
 answerLine true = codes "member=yes" ++ 10 ∷ []

@@ -9,7 +9,7 @@ use Rattle.jobs.specs.declared.lines.Place.{Place}
 use Rattle.jobs.specs.declared.lines.Place.the-variants.{Level, Matrix}
 
 abbrev pub Fits : Place → ℤ → Type 0
-Fits Level z = (pos 1 ≤ℤ z) × (z ≤ℤ pos 200)
+Fits Level z = z ≤ℤ pos 1000000000
 Fits (Matrix before) z = (before < 100) × IsEntry z
 
 -- each entry as it is read, up to the cap

@@ -1,9 +1,13 @@
 // What is wrong with a job, and on which line.
 ghost use mathlib.Core.Path.{_≡_};
 ghost use Rattle.jobs.specs.declared.fault.Error.the-variants.{Memory, Refused};
-ghost use Rattle.jobs.specs.declared.fault.Fault.the-variants.{Field, Matrix};
+ghost use Rattle.jobs.specs.declared.fault.Fault.the-variants.{Field, Level, Matrix};
 ghost use Rattle.jobs.specs.Faults.{numberOf, refusalText};
 ghost use Rattle.std.specs.declared.option.Option.the-variants.{Some};
+use levels::level::Refusal as LevelRefusal;
+use levels::level::RefusalDebug as LevelRefusalDebug;
+use levels::level::RefusalEq as LevelRefusalEq;
+use levels::level::RefusalPartialEq as LevelRefusalPartialEq;
 use std::alloc::AllocError;
 use std::alloc::Refused as NoRoom;
 use std::fmt;
@@ -20,12 +24,13 @@ pub enum MatrixFault {
     Determinant,
 }
 
-// Of a line: its form, its fields, the range of its numbers, or what its numbers make.
+// Of a line: its form, its fields, the range of its numbers, or what the maker of its object or its matrix declines, whole.
 #[derive(Clone, Copy, Debug, PartialEq, Eq)]
 pub enum Fault {
     Form,
     Field(FieldFault),
     Range,
+    Level(LevelRefusal),
     Matrix(MatrixFault),
 }
 
@@ -34,6 +39,14 @@ pub impl From<FieldFault> for Fault as FaultFromField {
 
     fn from(fault: FieldFault) -> Fault {
         Fault::Field(fault)
+    }
+}
+
+pub impl From<LevelRefusal> for Fault as FaultFromLevel {
+    ghost converts = { λ e r. r ≡ Level e };
+
+    fn from(refusal: LevelRefusal) -> Fault {
+        Fault::Level(refusal)
     }
 }
 
@@ -54,6 +67,7 @@ impl Fault {
             Fault::Form => 1,
             Fault::Field(FieldFault::Unreadable) => 2,
             Fault::Range => 3,
+            Fault::Level(refusal) => refusal.number(),
             Fault::Matrix(MatrixFault::Determinant) => 6,
         }
     }

@@ -1,7 +1,10 @@
 // A job: an object, whether it is mirrored, and the matrices to ask about.
+use levels::lines::Lines;
+use levels::matrices::Matrices;
+use levels::vectors::Vectors;
 use modular::matrix::Matrix;
 
-// The three kinds of level.
+// The kinds of object.
 #[derive(Clone, Copy, Debug, PartialEq, Eq)]
 pub enum Kind {
     Lines,
@@ -9,10 +12,17 @@ pub enum Kind {
     Matrices,
 }
 
+// The action of a job, less its mirror.
+#[derive(Clone, Copy)]
+pub enum Object {
+    Lines(Lines),
+    Vectors(Vectors),
+    Matrices(Matrices),
+}
+
 #[derive(Drop)]
 pub struct Job {
-    pub kind: Kind,
-    pub level: u32,
+    pub object: Object,
     pub mirror: bool,
     pub matrices: Vec<Matrix>,
 }

@@ -5,5 +5,6 @@ pub mod job;
 mod lines;
 pub mod members;
 mod number;
+pub mod object;
 pub mod read;
 pub mod reply;

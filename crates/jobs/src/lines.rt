@@ -5,7 +5,7 @@ ghost use mathlib.Core.Bool.{Bool};
 ghost use mathlib.Core.List.{List};
 ghost use mathlib.Core.Path.{_≡_};
 ghost use Rattle.jobs.specs.Faults.{numberOf};
-ghost use Rattle.jobs.specs.Format.{KindLine, KindFault, SaysKind, LevelLine, LevelFault, MirrorLine, MirrorFault, SaysMirror, MatrixLine, MatrixFaulty, SaysMatrix, IsMatrix, Entry};
+ghost use Rattle.jobs.specs.Format.{KindLine, KindFault, SaysKind, LevelSaid, LevelFault, MirrorLine, MirrorFault, SaysMirror, MatrixLine, MatrixFaulty, SaysMatrix, IsMatrix, Entry};
 ghost use Rattle.jobs.specs.Numbers.{capped};
 ghost use Rattle.jobs.specs.Ranges.{Fits, cappedMatrix};
 ghost use Rattle.jobs.specs.declared.fault.Fault.the-variants.{Range};
@@ -38,7 +38,7 @@ fn ranged(place: Place, number: i64) -> Result<(), Fault>
     ensures { λ r. ⌜ Cases r (λ _. Fits place number) (λ e. (e ≡ Range) × (Fits place number → ⊥)) ⌝ }
 {
     match (place, number) {
-        (Place::Level, n) if n < 1 || n > 200 => Err(Fault::Range),
+        (Place::Level, n) if n > 1_000_000_000 => Err(Fault::Range),
         (Place::Matrix(before), n) if before >= 100 || n < -1_000_000_000 || n > 1_000_000_000 =>
             Err(Fault::Range),
         _ => Ok(()),
@@ -90,9 +90,9 @@ pub fn kind_line(text: &[u8]) -> Result<(Kind, &[u8]), Fault>
     }
 }
 
-// `level=` and a number.
+// `level=` and a number; whether there is such a level is left to the maker of the object.
 pub fn level_line(text: &[u8]) -> Result<(u32, &[u8]), Fault>
-    ensures { λ r. ⌜ Cases r (λ p. LevelLine (now (text .entry)) (p .0) (now (p .1))) (λ e. LevelFault (now (text .entry)) (numberOf e)) ⌝ }
+    ensures { λ r. ⌜ Cases r (λ p. LevelSaid (now (text .entry)) (p .0) (now (p .1))) (λ e. LevelFault (now (text .entry)) (numberOf e)) ⌝ }
 {
     let Some((body, rest)) = bytes::keyed(b"level=", text) else {
         return Err(Fault::Form);

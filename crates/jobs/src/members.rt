@@ -2,19 +2,21 @@
 ghost use mathlib.Core.Path.{_≡_};
 ghost use Rattle.jobs.specs.Jobs.{task};
 ghost use Rattle.jobs.specs.Members.{Answers, InGroup, IsMember, answerLine};
+ghost use Rattle.jobs.specs.Objects.{kindOf, levelOf};
 ghost use Rattle.modular.specs.Matrix.{entries};
 ghost use Rattle.numbers.specs.Residues.{Cong};
 ghost use Rattle.std.specs.Of.String.{string-bytes};
 ghost use Rattle.std.specs.Orderings.{Decides};
 ghost use Rattle.std.specs.Vec.{made};
 use crate::job::Job;
-use crate::job::Kind;
+use crate::job::Object;
+use modular::matrix;
 use modular::matrix::Matrix;
 use std::alloc::AllocError;
 use std::alloc::Global;
 
 // Whether x and y differ by a multiple of n.
-fn congruent(x: i64, y: i64, n: u32) -> bool
+fn congruent(x: i64, y: i64, n: u8) -> bool
     ensures { λ r. ⌜ Decides r (Cong n x y) ⌝ }
 {
     if n == 0 {
@@ -25,28 +27,27 @@ fn congruent(x: i64, y: i64, n: u32) -> bool
 }
 
 // Whether a matrix has the congruences that define the group of a level.
-pub fn in_group(kind: Kind, level: u32, m: Matrix) -> bool
-    ensures { λ r. ⌜ Decides r (InGroup kind level (entries m)) ⌝ }
+fn in_group(object: Object, m: Matrix) -> bool
+    ensures { λ r. ⌜ Decides r (InGroup (kindOf object) (levelOf object) (entries m)) ⌝ }
 {
     let [[a, b], [c, d]] = m;
-    match kind {
-        Kind::Lines => congruent(c, 0, level),
-        Kind::Vectors => congruent(c, 0, level) && congruent(d, 1, level),
-        Kind::Matrices => {
-            congruent(a, 1, level)
-                && congruent(b, 0, level)
-                && congruent(c, 0, level)
-                && congruent(d, 1, level)
+    match object {
+        Object::Lines(lines) => congruent(c, 0, lines.level()),
+        Object::Vectors(vectors) => congruent(c, 0, vectors.level())
+            && congruent(d, 1, vectors.level()),
+        Object::Matrices(matrices) => {
+            let n = matrices.level();
+            congruent(a, 1, n) && congruent(b, 0, n) && congruent(c, 0, n) && congruent(d, 1, n)
         }
     }
 }
 
-// Whether a matrix is a member of the job's group. A sign on b and c changes no congruence with 0, so the group of a level
+// Whether a matrix is a member of the job's action. A sign on b and c changes no congruence with 0, so the group of a level
 // is its own mirror.
 pub fn is_member(job: &Job, m: Matrix) -> bool
     ensures { λ r. ⌜ Decides r (IsMember (task (now (job .entry))) (entries m)) ⌝ }
 {
-    in_group(job.kind, job.level, m)
+    matrix::determinant(m) == 1 && in_group(job.object, m)
 }
 
 fn answer(member: bool) -> &'static str

@@ -1,13 +1,20 @@
 // Reading the text of a job.
 ghost use mathlib.Core.Path.{_≡_};
+ghost use Rattle.jobs.specs.Objects.{kindOf, levelOf};
+ghost use Rattle.std.specs.Results.{Cases};
 ghost use Prim.Native.Nat.{ℕ};
+ghost use Rattle.jobs.specs.Faults.{numberOf};
+ghost use Rattle.jobs.specs.Format.{IsLevel};
 ghost use Rattle.jobs.specs.Jobs.{Declines, FirstFault, Gives, Reads, ReadsMatrices, SpellsJob, Task, onLine};
 use crate::fault::Error;
 use crate::fault::ErrorFromNoRoom;
 use crate::fault::ErrorFromRefusal;
 use crate::fault::Fault;
+use crate::fault::FaultFromLevel;
 use crate::fault::Refusal;
 use crate::job::Job;
+use crate::job::Kind;
+use crate::job::Object;
 use crate::lines;
 use modular::matrix::Matrix;
 use std::alloc::Global;
@@ -23,6 +30,13 @@ fn on_line<T>(line: usize, read: Result<T, Fault>) -> Result<T, Refusal>
         Ok(found) => Ok(found),
         Err(fault) => Err(Refusal { fault, line }),
     }
+}
+
+// The object of a job, or the fault of its level.
+fn object_at(kind: Kind, level: u32) -> Result<Object, Fault>
+    ensures { λ r. ⌜ Cases r (λ o. (kindOf o ≡ kind) × (levelOf o ≡ level)) (λ e. (numberOf e ≡ 3) × (IsLevel level → ⊥)) ⌝ }
+{
+    Ok(Object::new(kind, level)?)
 }
 
 // The matrix lines that make up the rest of a text.
@@ -55,11 +69,11 @@ pub fn read(heap: Global, text: &[u8]) -> Result<Job, Error>
     }
     let (kind, rest) = on_line(1, lines::kind_line(text))?;
     let (level, rest) = on_line(2, lines::level_line(rest))?;
+    let object = on_line(2, object_at(kind, level))?;
     let (mirror, rest) = on_line(3, lines::mirror_line(rest))?;
     let matrices = matrix_lines(heap, rest)?;
     Ok(Job {
-        kind,
-        level,
+        object,
         mirror,
         matrices,
     })

@@ -1,4 +1,4 @@
--- A level is read, and then its range is looked at.
+-- A number is read, and one past the cap is no level.
 use mathlib.Core.Path.{refl}
 use native.Mathlib.Omega.{arith}
 use borrow.Author.Differences.{ints}
@@ -20,4 +20,4 @@ returns-in-Break-ranged c =
     let p = err-from-errBy (c .from-residual-in-Break-ranged .result) (c .from-residual-in-Break-ranged .ensures .1) in
     let a = c .in-Break-ranged .ensures tt in
     let l = c .in-Continue-level .ensures tt in
-    rw (p .1, p .2, a .0) (range _ _ _ (c .in-Some .ensures tt) (l .0, refl) (λ h. a .1 (omega (arith, ints, c .from .ensures), omega (arith, ints, c .from .ensures))))
+    rw (p .1, p .2, a .0) (range _ _ _ (c .in-Some .ensures tt) (l .0, refl) (λ h. a .1 (omega (arith, ints, c .from .ensures))))
