@@ -1,11 +1,7 @@
 -- A text spells one job or has one first fault, and never both.
-use mathlib.Core.Path.{_≡_, refl, sym, ap, subst, _∙_}
-use mathlib.Core.Bool.{Bool, true, false}
+use mathlib.Core.Path.{_≡_, refl, sym, subst, _∙_}
 use mathlib.Core.List.{List, [], _∷_, _++_}
-use Prim.Native.Nat.{ℕ, suc, _+_, _<_, _≤_}
-use native.Mathlib.Omega.{arith}
-use lib.ListN.{length}
-use lib.IntN.{ℤ}
+use Prim.Native.Nat.{ℕ, _+_}
 use Rattle.jobs.specs.Bytes.{Keyed}
 use Rattle.jobs.specs.Line.{Line, Fault, form, unread, range, refused}
 use Rattle.jobs.proofs.Cuts.{one-split}

@@ -2,7 +2,7 @@
 --     Lacks x bs            no byte of bs is x
 --     Split x bs u v        bs is u, then the first x, then v
 use mathlib.Core.Path.{_≡_}
-use mathlib.Core.List.{List, [], _∷_, _++_}
+use mathlib.Core.List.{List, _∷_, _++_}
 use Prim.Native.Nat.{ℕ, _<_}
 use lib.ListN.{length, getD}
 

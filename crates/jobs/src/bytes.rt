@@ -1,5 +1,4 @@
 // Cutting a text of bytes.
-ghost use mathlib.Core.Path.{_≡_};
 ghost use Rattle.jobs.specs.Bytes.{Keyed, Lacks, Split, Unkeyed};
 ghost use Rattle.std.specs.Options.{Cases as BySome};
 

@@ -19,7 +19,7 @@ use Rattle.modular.specs.Words.{ofLetter, matrix}
 use Rattle.modular.proofs.Products.{same, one-left, zero-left, matrix-append}
 
 -- the matrix of T^k
-abbrev shift : ℤ → M2
+abbrev pub shift : ℤ → M2
 shift k = record { a = pos 1; b = k; c = pos 0; d = pos 1 }
 
 one-and : (q x y : ℤ) → pos 1 *ℤ x +ℤ q *ℤ y ≡ x +ℤ q *ℤ y
@@ -38,19 +38,19 @@ s-times : (m : M2) → ofLetter S · m ≡ record { a = negℤ (m .c); b = neg�
 s-times m = same (ofLetter S · m) (record { a = negℤ (m .c); b = negℤ (m .d); c = m .a; d = m .b })
     (minus-second (m .a) (m .c)) (minus-second (m .b) (m .d)) (one-left (m .a) (m .c)) (one-left (m .b) (m .d))
 
-shift-sum : (j k : ℤ) → shift j · shift k ≡ shift (j +ℤ k)
+pub shift-sum : (j k : ℤ) → shift j · shift k ≡ shift (j +ℤ k)
 shift-sum j k = shift-times j (shift k) ∙ same (record { a = pos 1 +ℤ j *ℤ pos 0; b = k +ℤ j *ℤ pos 1; c = pos 0; d = pos 1 }) (shift (j +ℤ k))
     (solve 1 (λ j. con (pos 1) ⊕ j ⊗ con (pos 0) ≐ con (pos 1)) tt j)
     (solve 2 (λ j k. k ⊕ j ⊗ con (pos 1) ≐ j ⊕ k) tt j k) refl refl
 
 -- a word of T^k
-abbrev power : ℤ → List Letter
+abbrev pub power : ℤ → List Letter
 power (pos zero) = []
 power (pos (suc n)) = T ∷ power (pos n)
 power (negsuc zero) = backT
 power (negsuc (suc n)) = backT ++ power (negsuc n)
 
-power-is : (k : ℤ) → matrix (power k) ≡ shift k
+pub power-is : (k : ℤ) → matrix (power k) ≡ shift k
 power-is (pos zero) = refl
 power-is (pos (suc n)) = ap (λ m. ofLetter T · m) (power-is (pos n)) ∙ shift-sum (pos 1) (pos n) ∙ ap shift (omega (arith, ints))
 power-is (negsuc zero) = refl
@@ -63,7 +63,7 @@ abbrev WordOf : M2 → Type 0
 WordOf M = (w : List Letter) × (matrix w ≡ M)
 
 -- T^q before a word
-before-power : (q : ℤ) (w : List Letter) → matrix (power q ++ w) ≡ shift q · matrix w
+pub before-power : (q : ℤ) (w : List Letter) → matrix (power q ++ w) ≡ shift q · matrix w
 before-power q w = matrix-append (power q) w ∙ ap (λ m. m · matrix w) (power-is q)
 
 product-one : (m n : ℕ) → m * n ≡ 1 → (m ≡ 1) × (n ≡ 1)
@@ -73,17 +73,17 @@ product-one (suc (suc m)) zero e = absurd (omega arith)
 product-one (suc (suc m)) (suc n) e = absurd (omega arith)
 
 -- two integers with product 1 are both 1 or both −1
-units : (a d : ℤ) → a *ℤ d ≡ pos 1 → ((a ≡ pos 1) × (d ≡ pos 1)) ⊎ ((a ≡ negsuc 0) × (d ≡ negsuc 0))
+pub units : (a d : ℤ) → a *ℤ d ≡ pos 1 → ((a ≡ pos 1) × (d ≡ pos 1)) ⊎ ((a ≡ negsuc 0) × (d ≡ negsuc 0))
 units (pos m) (pos n) e = let p = product-one m n (ap up e) in inl (ap pos (p .0), ap pos (p .1))
 units (pos m) (negsuc n) e = absurd (omega (arith, ints, e))
 units (negsuc m) (pos n) e = absurd (omega (arith, ints, e))
 units (negsuc m) (negsuc n) e = let p = product-one (suc m) (suc n) (ap up e) in inr (ap negsuc (omega (arith, p .0)), ap negsuc (omega (arith, p .1)))
 
 -- −T^(−b)
-abbrev minus-shift : ℤ → M2
+abbrev pub minus-shift : ℤ → M2
 minus-shift b = record { a = negsuc 0; b = b; c = pos 0; d = negsuc 0 }
 
-turned-is : (b : ℤ) → matrix (S ∷ S ∷ power (negℤ b)) ≡ minus-shift b
+pub turned-is : (b : ℤ) → matrix (S ∷ S ∷ power (negℤ b)) ≡ minus-shift b
 turned-is b = ap (λ m. ofLetter S · (ofLetter S · m)) (power-is (negℤ b)) ∙ ap (λ m. ofLetter S · m) (s-times (shift (negℤ b)))
     ∙ s-times (record { a = pos 0; b = negsuc 0; c = pos 1; d = negℤ b }) ∙ (λ i. minus-shift (negℤ-negℤ b i))
 
@@ -98,17 +98,17 @@ flat M z e = elim (units (M .a) (M .d) one) [
     one = solve 2 (λ p b. p ≐ p ⊝ b ⊗ con (pos 0)) tt (M .a *ℤ M .d) (M .b) ∙ ap (λ c. M .a *ℤ M .d -ℤ M .b *ℤ c) (sym z) ∙ e
 
 -- what is left of M when T^q and S are taken off its left
-abbrev left : M2 → ℤ → ℤ → M2
+abbrev pub left : M2 → ℤ → ℤ → M2
 left M q r = record { a = M .c; b = M .d; c = negℤ r; d = q *ℤ M .d -ℤ M .b }
 
-left-is : (M : M2) (q r : ℤ) → M .a ≡ q *ℤ M .c +ℤ r → shift q · (ofLetter S · left M q r) ≡ M
+pub left-is : (M : M2) (q r : ℤ) → M .a ≡ q *ℤ M .c +ℤ r → shift q · (ofLetter S · left M q r) ≡ M
 left-is M q r e =
     ap (λ m. shift q · m) (s-times (left M q r)) ∙ shift-times q (record { a = negℤ (negℤ r); b = negℤ (q *ℤ M .d -ℤ M .b); c = M .c; d = M .d })
     ∙ same (record { a = negℤ (negℤ r) +ℤ q *ℤ M .c; b = negℤ (q *ℤ M .d -ℤ M .b) +ℤ q *ℤ M .d; c = M .c; d = M .d }) M
     (solve 2 (λ r p. ⊖ (⊖ r) ⊕ p ≐ p ⊕ r) tt r (q *ℤ M .c) ∙ sym e)
     (solve 2 (λ p b. ⊖ (p ⊝ b) ⊕ p ≐ b) tt (q *ℤ M .d) (M .b)) refl refl
 
-left-det : (M : M2) (q r : ℤ) → M .a ≡ q *ℤ M .c +ℤ r → det M ≡ pos 1 → det (left M q r) ≡ pos 1
+pub left-det : (M : M2) (q r : ℤ) → M .a ≡ q *ℤ M .c +ℤ r → det M ≡ pos 1 → det (left M q r) ≡ pos 1
 left-det M q r e o =
     solve 5 (λ b c d q r. c ⊗ (q ⊗ d ⊝ b) ⊝ d ⊗ ⊖ r ≐ (q ⊗ c ⊕ r) ⊗ d ⊝ b ⊗ c) tt (M .b) (M .c) (M .d) q r
     ∙ ap (λ a. a *ℤ M .d -ℤ M .b *ℤ M .c) (sym e) ∙ o

@@ -2,7 +2,7 @@
 use Prim.Native.Nat.{ℕ, suc, _*_, _^_, _≤_, _<_, _-_}
 use native.Mathlib.Nat.{mul-le-mul}
 use native.Mathlib.Omega.{arith}
-use lib.IntN.{ℤ, pos, negsuc, _*ℤ_, negℤ}
+use lib.IntN.{ℤ, pos, negsuc, _*ℤ_}
 use borrow.Author.Differences.{up, down, neg-is, ints}
 use mir.Syntax.{w64, w128}
 use mir.Val.{SFits}

@@ -1,6 +1,5 @@
 // Two-by-two integer matrices by value, as arrays of rows.
 ghost use mathlib.Core.Path.{_≡_};
-ghost use Prim.Native.Nat.{_^_};
 ghost use lib.IntN.{_+ℤ_, _*ℤ_};
 ghost use mir.Syntax.{w64};
 ghost use mir.Val.{SFits};

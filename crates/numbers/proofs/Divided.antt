@@ -1,12 +1,12 @@
 -- The machine's quotient and remainder are the truncating ones.
 use mathlib.Core.Path.{_≡_, refl, sym, ap, _∙_}
-use Prim.Native.Nat.{ℕ, zero, suc, _+_, _*_, _/_, _%_, _<_}
+use Prim.Native.Nat.{ℕ, zero, suc, _+_, _*_, _/_, _%_}
 use native.Mathlib.Nat.{mod-lt, div-add-mod', zero-mul}
 use native.Mathlib.Omega.{arith}
 use lib.IntN.{ℤ, pos, negsuc, _+ℤ_, _*ℤ_, negℤ, natAbs}
 use lib.Signed.{quotZ, remZ, _≤ℤ_}
 use borrow.Author.Differences.{ints}
-use Rattle.numbers.specs.Division.{Quotient, SignOf}
+use Rattle.numbers.specs.Division.{Quotient}
 
 -- the size of a negated natural
 abs-neg : (n : ℕ) → natAbs (negℤ (pos n)) ≡ n

@@ -1,10 +1,9 @@
 -- A line is cut at its line feed, and there is one first line feed.
-use mathlib.Core.Path.{_≡_, sym, ap, subst, _∙_}
-use mathlib.Core.List.{List, _∷_, _++_}
-use Prim.Native.Nat.{ℕ}
+use mathlib.Core.Path.{sym, ap, subst, _∙_}
+use mathlib.Core.List.{_∷_, _++_}
 use Rattle.std.proofs.shelf.Equals.{strip-prefix-is}
 use Rattle.std.proofs.shelf.Results.{cases-at-some, cases-at-none}
-use Rattle.jobs.specs.Bytes.{Lacks, Split, Keyed}
+use Rattle.jobs.specs.Bytes.{Lacks}
 use Rattle.jobs.proofs.Cuts.{lacked, one-split}
 use Rattle.jobs.proofs.bytes.keyed.Needs as need
 

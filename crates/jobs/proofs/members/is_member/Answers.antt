@@ -6,7 +6,7 @@ use native.Mathlib.Omega.{arith}
 use lib.IntN.{pos}
 use mir.Syntax.{w128}
 use mir.Val.{ofZ}
-use Rattle.modular.specs.Matrix.{det, entries}
+use Rattle.modular.specs.Matrix.{entries}
 use Rattle.jobs.specs.Objects.{kindOf, levelOf}
 use Rattle.jobs.proofs.Belonging.{action-member, is-level}
 use Rattle.jobs.proofs.members.is_member.Needs as need

@@ -1,5 +1,5 @@
 -- A field with a minus spells what its digits do, below 0.
-use mathlib.Core.Path.{_≡_, refl}
+use mathlib.Core.Path.{refl}
 use mathlib.Core.Logic.{inl, inr}
 use mathlib.Core.List.{[], _∷_}
 use Rattle.std.proofs.shelf.Equals.{strip-prefix-is}

@@ -1,7 +1,7 @@
 -- The bytes so far are digits, and the number is what they spell, up to the cap.
 use Prim.Native.Nat.{ℕ, _<_, _≤_, min}
 use mathlib.Core.Path.{_≡_}
-use lib.ListN.{length, getD, take}
+use lib.ListN.{getD, take}
 use Rattle.jobs.specs.Numbers.{value}
 use Rattle.jobs.proofs.number.natural.Given as given
 

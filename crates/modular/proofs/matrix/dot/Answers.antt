@@ -1,6 +1,5 @@
 -- A sum that does not fit 128 bits does not fit 64.
-use mathlib.Core.Path.{_≡_, refl, sym, subst, _∙_}
-use borrow.Author.Needs.{needs}
+use mathlib.Core.Path.{_≡_, sym, subst, _∙_}
 use borrow.Author.Differences.{ints}
 use native.Mathlib.Omega.{arith}
 use Rattle.std.specs.declared.result.Result.{Result}
@@ -8,11 +7,10 @@ use Rattle.std.specs.declared.result.Result.the-variants.{Ok, Err}
 use Rattle.std.specs.declared.num.TryFromIntError.{TryFromIntError}
 use Rattle.std.specs.Numbers.{Checked, Converted}
 use Rattle.std.specs.Results.{okPart}
-use lib.IntN.{ℤ, _*ℤ_, _+ℤ_}
-use mir.Syntax.{w64, w128}
+use lib.IntN.{ℤ, _*ℤ_}
+use mir.Syntax.{w64}
 use mir.Val.{SFits}
 use mir.Facts.{toZ-ofZ}
-use Rattle.modular.proofs.Wide.{product-fits, wider}
 use Rattle.modular.proofs.matrix.dot.Needs as need
 
 pub returns-in-Break-sum : need.returns-in-Break-sum

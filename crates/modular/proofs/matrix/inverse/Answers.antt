@@ -1,11 +1,11 @@
 -- The entries move, with two signs turned; both products are the determinant times the identity.
-use mathlib.Core.Path.{_≡_, refl, sym, ap, subst, _∙_}
+use mathlib.Core.Path.{_≡_, refl, sym, subst, _∙_}
 use borrow.Author.Needs.{needs}
 use borrow.Author.Differences.{ints}
 use native.Mathlib.Omega.{arith}
-use lib.IntN.{ℤ, pos}
+use lib.IntN.{pos}
 use mir.Facts.{toZ-ofZ}
-use Rattle.modular.specs.Matrix.{Fits, entries, Invertible, Undoes, det, inverted}
+use Rattle.modular.specs.Matrix.{Fits, entries, Undoes, det, inverted}
 use Rattle.modular.proofs.Entries.{made-rows}
 use Rattle.modular.proofs.Products.{inverted-undoes}
 use Rattle.modular.proofs.matrix.inverse.Needs as need

@@ -1,6 +1,6 @@
 -- One letter more multiplies on the right.
 use mathlib.Core.Path.{_≡_, sym, ap, subst, _∙_}
-use mathlib.Core.List.{List, []}
+use mathlib.Core.List.{List}
 use Prim.Native.Nat.{ℕ, _+_, _≤_, _<_}
 use native.Mathlib.Decide.{decLe}
 use native.Mathlib.Omega.{arith}
@@ -8,7 +8,7 @@ use lib.IntN.{ℤ}
 use lib.ListN.{length, take, getD}
 use Rattle.std.proofs.shelf.Lists.{take-more, take-all}
 use Rattle.modular.specs.declared.letter.Letter.{Letter}
-use Rattle.modular.specs.Matrix.{M2, Fits, rows, entries, _·_}
+use Rattle.modular.specs.Matrix.{Fits, rows, entries, _·_}
 use Rattle.modular.specs.Words.{ofLetter, matrix}
 use Rattle.modular.proofs.Products.{matrix-snoc}
 use Rattle.modular.proofs.word.matrix_of.Needs as need

@@ -1,0 +1,9 @@
+pub mod Acting
+pub mod Finished
+pub mod Generators
+pub mod Links
+pub mod Order
+pub mod Placing
+pub mod Refusals
+pub mod Soundness
+pub mod Widths

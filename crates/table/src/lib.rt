@@ -1,0 +1,4 @@
+// Coset tables: rows of records, and the links between them.
+pub mod law;
+pub mod link;
+pub mod refusal;
