@@ -44,12 +44,12 @@ module _ (links : List Link) (k : Sound links) where
       let m = moves (links-laws links k) in
       sym (lead-identity m (T ∷ backT) p h refl) ∙ ap (lead t (next links S) backT) e ∙ lead-identity m (T ∷ backT) q l refl
 
-  times-apart : (m p q : ℕ) → p < length links → q < length links → times m t p ≡ times m t q → p ≡ q
+  pub times-apart : (m p q : ℕ) → p < length links → q < length links → times m t p ≡ times m t q → p ≡ q
   times-apart zero p q h l e = e
   times-apart (suc m) p q h l e = times-apart m p q h l (t-apart (times m t p) (times m t q) (times-row m p h) (times-row m q l) e)
 
   -- each row comes back, at the latest after as many steps as there are rows
-  comes-back : (r : ℕ) → r < length links → (j : ℕ) × (0 < j) × (j ≤ length links) × (times j t r ≡ r)
+  pub comes-back : (r : ℕ) → r < length links → (j : ℕ) × (0 < j) × (j ≤ length links) × (times j t r ≡ r)
   comes-back r h =
       let s = shared (length links) (λ m. times m t r) (λ i l. times-row i r h) in
       let j = s .j - s .i in

@@ -4,6 +4,7 @@ use Rattle.modular.proofs.Members.{through-matrix, any-word}
 use Rattle.modular.proofs.Reaching.{has-word}
 use Rattle.table.specs.Finished.{SoundLinksLaw}
 use Rattle.table.proofs.Counted.{generators-count}
+use Rattle.table.proofs.Cusps.{cusp-law}
 use Rattle.table.proofs.Cycles.{width-is}
 use Rattle.table.proofs.Generating.{members-generated}
 use Rattle.table.proofs.Placed.{place-is}
@@ -27,4 +28,5 @@ sound-links-law links k =
       generated = members-generated links k;
       count = generators-count links k;
       widths = width-is links k;
+      cusps = cusp-law links k;
     }

@@ -1,4 +1,6 @@
 pub mod Counted
+pub mod Counts
+pub mod Cusps
 pub mod Cycles
 pub mod FinishedLaws
 pub mod Generating

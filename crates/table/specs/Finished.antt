@@ -18,6 +18,7 @@ use Rattle.table.specs.Generators.{generators, Product}
 use Rattle.table.specs.Links.{next}
 use Rattle.table.specs.Order.{Least, Listed, Whole}
 use Rattle.table.specs.Placing.{placed}
+use Rattle.table.specs.Shapes.{CuspLaw}
 use Rattle.table.specs.Soundness.{Sound}
 use Rattle.table.specs.Widths.{IsWidth, width}
 
@@ -47,6 +48,8 @@ pub record FinishedLaw (links : List Link) : Type 0 where
   pub count : length (generators links) ≡ length links + 1
   -- the width of a row is the least positive number of T steps that leads back to it
   pub widths : (r : ℕ) → r < length links → IsWidth links r (width links r)
+  -- the cusps are the T-cycles: each row is in exactly one, and their widths add up to the rows
+  pub cusps : CuspLaw links
 
 abbrev pub SoundLinksLaw : Type 0
 SoundLinksLaw = (links : List Link) → Sound links → FinishedLaw links

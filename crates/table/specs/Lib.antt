@@ -5,5 +5,6 @@ pub mod Links
 pub mod Order
 pub mod Placing
 pub mod Refusals
+pub mod Shapes
 pub mod Soundness
 pub mod Widths
