@@ -15,7 +15,7 @@ use Rattle.table.specs.Links.{next}
 use Rattle.table.specs.Shapes.{counted, lowFrom, isLow, widths, OnCycle, CuspLaw}
 use Rattle.table.specs.Soundness.{Sound}
 use Rattle.table.specs.Widths.{times, width}
-use Rattle.table.proofs.Counts.{truth, yes-not-no, counted-none, counted-all, counted-parts, counted-numbers}
+use Rattle.table.proofs.Tallies.{truth, yes-not-no, counted-none, counted-all, counted-parts, counted-numbers}
 use Rattle.table.proofs.Cycles.{times-add, times-round, times-row, times-apart, comes-back, width-is}
 
 module _ (links : List Link) (k : Sound links) where

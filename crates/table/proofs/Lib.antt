@@ -1,10 +1,23 @@
-pub mod Counted
-pub mod Counts
-pub mod Cusps
-pub mod Cycles
-pub mod FinishedLaws
-pub mod Generating
-pub mod Numbered
-pub mod Pigeons
-pub mod Placed
-pub mod SoundRows
+mod Asked
+mod Codes
+mod Counted
+mod Cusps
+mod Cycles
+mod EveryRun
+mod Filling
+mod FinishedLaws
+mod Finishing
+mod Following
+mod Generating
+mod Growth
+mod Listing
+mod Numbered
+mod Outcomes
+mod Pigeons
+mod Placed
+mod SoundTested
+mod SoundRows
+mod Standing
+mod StoredLists
+mod Tallies
+mod Writes

@@ -1,10 +1,16 @@
 pub mod Acting
+pub mod Facts
 pub mod Finished
 pub mod Generators
+pub mod Growing
 pub mod Links
+pub mod Matrices
 pub mod Order
 pub mod Placing
+pub mod Questions
 pub mod Refusals
+pub mod Runs
 pub mod Shapes
+pub mod SoundTest
 pub mod Soundness
 pub mod Widths

@@ -1,4 +1,5 @@
 // Coset tables: rows of records, and the links between them.
+pub mod counts;
 pub mod law;
 pub mod link;
 pub mod refusal;

@@ -1,0 +1,54 @@
+// How an origami is made and compared: a file of its own, since the promises are about the impl of the action.
+ghost use mathlib.Core.Path.{_≡_};
+ghost use mathlib.Core.Logic.{_↔_};
+ghost use lib.Dec.{T};
+ghost use Rattle.modular.specs.Actions.{Member};
+ghost use Rattle.origami.specs.contracts.origami.OrigamiAction.the-impl.{ghosts as action};
+ghost use Rattle.origami.specs.Forms.{least, IsLeast};
+ghost use Rattle.origami.specs.Gluings.{Renumbered};
+ghost use Rattle.origami.specs.Listings.{Accepted, Declined, listed};
+ghost use Rattle.origami.specs.Origamis.{IsPoint, VeechGroup, OneForm};
+ghost use Rattle.std.specs.Results.{Cases};
+use crate::form::least;
+use crate::gluing::Gluing;
+use crate::listing::listed;
+use crate::origami::Origami;
+use crate::origami::OrigamiAction;
+use crate::refusal::Refusal;
+use modular::action::Action;
+
+impl Origami {
+    // The origami of two lists, which give for each square what is right of it and what is above it. Squares count from 1 here.
+    pub fn new(right: &[u32], up: &[u32]) -> Result<Origami, Refusal>
+        ensures { λ r. ⌜ Cases r (λ a. Accepted (now (right .entry)) (now (up .entry)) × (a .gluing ≡ listed (now (right .entry)) (now (up .entry))) × VeechGroup (a .gluing) (Member (action .start a) (action .stepT a) (action .stepS a))) (Declined (now (right .entry)) (now (up .entry))) ⌝ }
+    {
+        Ok(Origami {
+            gluing: listed(right, up)?,
+        })
+    }
+
+    // The gluing that was given.
+    pub fn gluing(&self) -> Gluing
+        ensures { λ r. ⌜ r ≡ now (self .entry) .gluing ⌝ }
+    {
+        self.gluing
+    }
+
+    // The smallest of the readings from all squares.
+    pub fn least_form(&self) -> Gluing
+        ensures value { λ r. ⌜ r ≡ least (now (self .entry) .gluing) ⌝ }
+        ensures is_least { λ r. ⌜ IsLeast (now (self .entry) .gluing) r ⌝ }
+        ensures renumbered { λ r. ⌜ Renumbered (now (self .entry) .gluing) r ⌝ }
+        ensures point { λ r. ⌜ IsPoint r ⌝ }
+    {
+        least(self.gluing)
+    }
+
+    // Whether a renumbering of the squares turns one gluing into the other.
+    pub fn same_surface(&self, other: &Origami) -> bool
+        ensures exactly { λ r. ⌜ T r ↔ Renumbered (now (self .entry) .gluing) (now (other .entry) .gluing) ⌝ }
+        ensures one_form { λ _. ⌜ OneForm (now (self .entry) .gluing) (now (other .entry) .gluing) ⌝ }
+    {
+        self.same(least(self.gluing), least(other.gluing))
+    }
+}
