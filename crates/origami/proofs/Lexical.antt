@@ -35,7 +35,8 @@ less-append (x ∷ xs) [] us vs e = absurd (omega arith)
 less-append (x ∷ xs) (y ∷ ys) us vs e =
     ap (λ b. ltb x y || (eqb x y && b)) (less-append xs ys us vs (omega arith)) ∙ regroup (ltb x y) (eqb x y) (less xs ys) (sameBytes xs ys) (less us vs)
 
-pub earlier-is : (a b : Gluing) (l s m : Bool) → length (a .right) ≡ length (b .right) → l ≡ less (a .right) (b .right) → s ≡ sameBytes (a .right) (b .right) → m ≡ less (a .up) (b .up)
+pub earlier-is : (a b : Gluing) (l s m : Bool) → length (a .right) ≡ length (b .right)
+    → l ≡ less (a .right) (b .right) → s ≡ sameBytes (a .right) (b .right) → m ≡ less (a .up) (b .up)
     → (l || (s && m)) ≡ earlier a b
 unfolding earlier
 earlier-is a b l s m e p q r = (λ i. p i || (q i && r i)) ∙ sym (less-append (a .right) (b .right) (a .up) (b .up) e)

@@ -8,10 +8,9 @@ use native.Mathlib.Omega.{arith}
 use lib.ListN.{length, getD, set}
 use Rattle.std.proofs.shelf.Lists.{length-set, getD-set-same, getD-set-other}
 use Rattle.std.proofs.shelf.Tests.{cases-eq, both-ways}
-use Rattle.origami.specs.declared.gluing.Gluing.{Gluing}
 use Rattle.origami.specs.Forms.{order}
 use Rattle.origami.specs.Gluings.{rightOf, upOf, Glues, Inside}
-use Rattle.origami.specs.Listings.{target, FitDegree, Lists, listed, AllReached, Accepted}
+use Rattle.origami.specs.Listings.{target, FitDegree, Lists, listed, AllReached}
 use Rattle.origami.specs.Squares.{Permutes, Carries}
 use Rattle.origami.specs.laws.Leasts.{glued-whole}
 use Rattle.origami.specs.laws.Padded.{padded-at}

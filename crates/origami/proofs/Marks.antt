@@ -2,12 +2,12 @@
 use mathlib.Core.Path.{_≡_, refl, sym, _∙_, ap, subst}
 use mathlib.Core.Bool.{cond}
 use mathlib.Core.List.{List, [], _∷_, _++_}
-use mathlib.Core.Logic.{_⊎_, inl, inr}
+use mathlib.Core.Logic.{inl, inr}
 use Prim.Native.Nat.{ℕ, _+_, _<_, _≤_, min}
 use native.Mathlib.Omega.{arith}
 use lib.Dec.{ltb}
-use lib.ListN.{length, getD, set, replicate}
-use Rattle.std.proofs.shelf.Lists.{length-push, getD-append-left, getD-push, getD-past, getD-set-same, getD-set-other, getD-replicate}
+use lib.ListN.{length, getD, set}
+use Rattle.std.proofs.shelf.Lists.{length-push, getD-append-left, getD-push, getD-past, getD-set-same, getD-set-other}
 use Rattle.std.proofs.shelf.Tests.{cases-eq, cases-lt, cond-true, cond-false, lt-ltb, le-ltb}
 use Rattle.origami.specs.declared.numbering.Numbering.{Numbering}
 use Rattle.origami.specs.Numberings.{Holds, Room}
@@ -96,7 +96,8 @@ module _ (x : ℕ) (xs : List ℕ) (n : Numbering) (h : Holds x xs n) (y : ℕ) 
     })
 
 -- one square has the number 0
-pub holds-first : (x : ℕ) (order number : List ℕ) → x < 16 → ((k : ℕ) → k < 16 → getD order k 0 ≡ x) → length number ≡ 16 → ((k : ℕ) → k < 16 → getD number k 0 ≡ 16)
+pub holds-first : (x : ℕ) (order number : List ℕ) → x < 16
+    → ((k : ℕ) → k < 16 → getD order k 0 ≡ x) → length number ≡ 16 → ((k : ℕ) → k < 16 → getD number k 0 ≡ 16)
     → Holds x (x ∷ []) (record { order = order; number = set number x 0; count = 1 })
 holds-first x order number l o ln n = record {
   few = omega arith;

@@ -1,6 +1,6 @@
 -- The loop over all squares for the smallest reading.
 use mathlib.Core.Path.{_≡_, sym, _∙_, ap}
-use Prim.Native.Nat.{ℕ, zero, suc, pred, _+_, _-_, _≤_, _<_}
+use Prim.Native.Nat.{ℕ, zero, suc, _+_, _-_, _≤_}
 use native.Mathlib.Omega.{arith}
 use Rattle.origami.specs.declared.gluing.Gluing.{Gluing}
 use Rattle.origami.specs.Forms.{reading, better, smallest, least}

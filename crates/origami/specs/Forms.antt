@@ -1,4 +1,5 @@
 -- Readings of a gluing, and the least of them.
+--     order g x       the squares of g, in the order of the numbers that they get when x gets the first
 --     reading g x     g in the numbers that its squares get when x gets the first
 --     less xs ys      xs is below ys at the first entry where they differ
 --     entries g       the entries of right and then those of up; behind the degree, both have zeros
@@ -16,7 +17,6 @@ use Rattle.origami.specs.declared.gluing.Gluing.{Gluing}
 use Rattle.origami.specs.Gluings.{rightOf, upOf, padded}
 use Rattle.origami.specs.Squares.{numbered, renumbered}
 
--- the squares of g, in the order of their numbers from x
 abbrev pub order : Gluing → ℕ → List ℕ
 order g x = numbered (rightOf g) (upOf g) x (g .degree)
 

@@ -1,5 +1,6 @@
 -- The action on gluings, and its members.
---     inside g         g has 1 to 16 squares, and each neighbour is one of them; of other records the action makes nothing new
+--     inside g         g has 1 to 16 squares, and each neighbour is one of them; other records are left as they are
+--     insideBelow g n  the neighbours of the squares below n are squares
 --     form g           the least form of g
 --     IsPoint g        g is a gluing, and its own least form
 --     shearedForm g    the T step: the least form of sheared g
@@ -7,8 +8,9 @@
 --     alike g k        g and k agree in all fields
 --     plainly w g      where the steps of the word w lead from g, with no least form taken
 --     VeechGroup g In  a matrix of determinant 1 is In exactly when some word of it turns g into a renumbering of g,
---                      and then all its words do
+--                      and exactly when every word of it does
 --     OneForm g k      g and k have one least form exactly when a renumbering turns one into the other
+--     Made xs ys g In  what the maker promises: it accepts the lists xs and ys, g is their gluing, and In is its Veech group
 use mathlib.Core.Path.{_≡_}
 use mathlib.Core.Bool.{Bool, true, cond, _&&_}
 use mathlib.Core.List.{List}
@@ -24,8 +26,8 @@ use Rattle.std.specs.shelf.Text.{sameBytes}
 use Rattle.origami.specs.declared.gluing.Gluing.{Gluing}
 use Rattle.origami.specs.Forms.{least}
 use Rattle.origami.specs.Gluings.{rightOf, upOf, Glues, Renumbered, sheared, turned}
+use Rattle.origami.specs.Listings.{Accepted, listed}
 
--- the neighbours of the squares below n are squares
 abbrev pub insideBelow : Gluing → ℕ → Bool
 insideBelow g zero = true
 insideBelow g (suc n) = insideBelow g n && (ltb (rightOf g n) (g .degree) && ltb (upOf g n) (g .degree))
@@ -53,8 +55,13 @@ abbrev pub plainly : List Letter → Gluing → Gluing
 plainly w g = lead sheared turned w g
 
 pub record VeechGroup (g : Gluing) (In : M2 → Type 0) : Type 0 where
-  pub members : (M : M2) → det M ≡ pos 1 → In M ↔ ((w : List Letter) × (matrix w ≡ M) × Renumbered g (plainly w g))
-  pub any-word : (u v : List Letter) → matrix u ≡ matrix v → Renumbered g (plainly u g) → Renumbered g (plainly v g)
+  pub some-word : (M : M2) → det M ≡ pos 1 → In M ↔ ((w : List Letter) × (matrix w ≡ M) × Renumbered g (plainly w g))
+  pub every-word : (M : M2) → det M ≡ pos 1 → In M ↔ ((w : List Letter) → matrix w ≡ M → Renumbered g (plainly w g))
 
 abbrev pub OneForm : Gluing → Gluing → Type 0
 OneForm g k = (least g ≡ least k) ↔ Renumbered g k
+
+pub record Made (xs ys : List ℕ) (g : Gluing) (In : M2 → Type 0) : Type 0 where
+  pub accepted : Accepted xs ys
+  pub as-listed : g ≡ listed xs ys
+  pub veech : VeechGroup g In

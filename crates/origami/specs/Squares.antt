@@ -2,7 +2,7 @@
 --     Into d f             f sends each number below d to one below d
 --     Apart d f            f never sends two numbers below d to one
 --     Permutes d f         both: f is a permutation of the numbers below d
---     inverse d f j        the number below d that f sends to j
+--     inverse d f j        the number below d that f sends to j, or 0 where there is none
 --     Undone d f           f is into, and its inverse undoes it
 --     Reached f g i        one gets from square 0 to square i by f and g
 --     Carries d σ f g h k  σ is a renumbering: a permutation of the squares that carries f to h and g to k

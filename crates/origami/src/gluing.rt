@@ -15,7 +15,7 @@ pub struct Gluing {
 }
 
 impl Gluing {
-    const MAX_DEGREE: u8 = 16;
+    pub(crate) const MAX_DEGREE: u8 = 16;
 
     // Whether both neighbours of a square are squares.
     fn has_neighbours(self, square: usize) -> bool
@@ -44,7 +44,8 @@ impl Gluing {
     // The T step: right stays, and up goes first right and then up.
     pub(crate) fn sheared(self) -> Gluing
         requires { ⌜ Inside self ⌝ }
-        ensures { λ r. ⌜ r ≡ sheared self ⌝ }
+        ensures value { λ r. ⌜ r ≡ sheared self ⌝ }
+        ensures inside { λ r. ⌜ Inside r ⌝ }
     {
         let mut up = [0; 16];
         for i in 0..self.degree as usize {
@@ -60,7 +61,8 @@ impl Gluing {
     // The S step: up becomes right, and right backwards becomes up.
     pub(crate) fn turned(self) -> Gluing
         requires { ⌜ Inside self ⌝ }
-        ensures { λ r. ⌜ r ≡ turned self ⌝ }
+        ensures value { λ r. ⌜ r ≡ turned self ⌝ }
+        ensures inside { λ r. ⌜ Inside r ⌝ }
     {
         let mut up = [0; 16];
         for i in 0..self.degree {

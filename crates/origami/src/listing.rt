@@ -35,7 +35,7 @@ pub(crate) fn listed(right: &[u32], up: &[u32]) -> Result<Gluing, Refusal>
     ensures { λ r. ⌜ Cases r (λ g. Accepted (now (right .entry)) (now (up .entry)) × (g ≡ listed (now (right .entry)) (now (up .entry)))) (Declined (now (right .entry)) (now (up .entry))) ⌝ }
 {
     let degree = right.len();
-    if degree == 0 || degree > 16 {
+    if degree == 0 || degree > Gluing::MAX_DEGREE as usize {
         return Err(Refusal::Degree);
     }
     let gluing = Gluing {

@@ -15,7 +15,8 @@ use modular::action::Action;
 
 mod maker;
 
-// A gluing of 1 to 16 squares, each of them reached from the first.
+// A gluing of 1 to 16 squares, each of them reached from the first. That right and up are permutations is said by their
+// inverses, which makes it a fact that a ghost field can hold.
 #[derive(Clone, Copy)]
 pub struct Origami {
     gluing: Gluing,

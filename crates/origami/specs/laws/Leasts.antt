@@ -1,23 +1,22 @@
 -- Two gluings have one least form exactly when a renumbering turns one into the other.
 use mathlib.Core.Path.{_≡_, refl, sym, _∙_, ap, subst}
-use mathlib.Core.Bool.{true, false, cond}
-use mathlib.Core.List.{List, map, _++_}
+use mathlib.Core.Bool.{true, false}
+use mathlib.Core.List.{List, map}
 use mathlib.Core.Logic.{_↔_, inl, inr}
 use Prim.Native.Nat.{ℕ, zero, suc, pred, _<_, _≤_}
 use native.Mathlib.Omega.{arith}
 use lib.ListN.{length, getD, take, drop}
 use Rattle.std.proofs.shelf.Lists.{length-append, take-at, drop-at}
-use Rattle.std.proofs.shelf.Tests.{cases-eq, cond-both, both-ways}
+use Rattle.std.proofs.shelf.Tests.{cases-eq, cond-both}
 use Rattle.origami.specs.declared.gluing.Gluing.{Gluing}
-use Rattle.origami.specs.Forms.{order, reading, less, entries, earlier, better, smallest, least, IsLeast}
+use Rattle.origami.specs.Forms.{order, reading, entries, earlier, better, smallest, least, IsLeast}
 use Rattle.origami.specs.Gluings.{rightOf, upOf, Glues, Renumbered, padded}
 use Rattle.origami.specs.Squares.{Into, Permutes, inverse, Carries, place, numbered, renumbered}
-use Rattle.origami.specs.laws.Injections.{onto}
 use Rattle.origami.specs.laws.Numberings.{listed-full, order-listed}
 use Rattle.origami.specs.laws.Orders.{not-less-self, not-less-than, not-less-both}
 use Rattle.origami.specs.laws.Padded.{padded-length, padded-at, padded-cong}
 use Rattle.origami.specs.laws.Places.{at-place, getD-map, place-map}
-use Rattle.origami.specs.laws.Renumberings.{carries-same, carries-join, carries-back, carries-permutes-right, carries-permutes-up, numbered-map}
+use Rattle.origami.specs.laws.Renumberings.{carries-join, carries-back, carries-permutes-right, carries-permutes-up, numbered-map}
 use Rattle.origami.specs.laws.Wholes.{Whole, reached-whole, whole-reached, carries-whole}
 
 -- gluings
@@ -25,7 +24,8 @@ use Rattle.origami.specs.laws.Wholes.{Whole, reached-whole, whole-reached, car
 pub glued-whole : (g : Gluing) → Glues g → Whole (g .degree) (rightOf g) (upOf g)
 glued-whole g h = reached-whole (g .degree) (rightOf g) (upOf g) (h .rights) (h .ups) (h .some) (h .reached)
 
-pub whole-glues : (g : Gluing) → 0 < g .degree → g .degree ≤ 16 → Permutes (g .degree) (rightOf g) → Permutes (g .degree) (upOf g) → Whole (g .degree) (rightOf g) (upOf g) → Glues g
+pub whole-glues : (g : Gluing) → 0 < g .degree → g .degree ≤ 16 → Permutes (g .degree) (rightOf g) → Permutes (g .degree) (upOf g)
+    → Whole (g .degree) (rightOf g) (upOf g) → Glues g
 whole-glues g z l p q w = record {
   some = z;
   few = l;
@@ -35,12 +35,9 @@ whole-glues g z l p q w = record {
 }
 
 -- a gluing is what carries a whole pair of permutations
-pub carried-glues : (g : Gluing) (f k : ℕ → ℕ) {σ : ℕ → ℕ} → 0 < g .degree → g .degree ≤ 16 → Permutes (g .degree) f → Permutes (g .degree) k → Whole (g .degree) f k
-    → Carries (g .degree) σ f k (rightOf g) (upOf g) → Glues g
+pub carried-glues : (g : Gluing) (f k : ℕ → ℕ) {σ : ℕ → ℕ} → 0 < g .degree → g .degree ≤ 16
+    → Permutes (g .degree) f → Permutes (g .degree) k → Whole (g .degree) f k → Carries (g .degree) σ f k (rightOf g) (upOf g) → Glues g
 carried-glues g f k z l p q w c = whole-glues g z l (carries-permutes-right c p) (carries-permutes-up c q) (carries-whole c (p .0) (q .0) w)
-
-pub renumbered-self : (g : Gluing) → Renumbered g g
-renumbered-self g = (refl, (λ i. i), carries-same (g .degree) (rightOf g) (upOf g) (rightOf g) (upOf g) (λ i l. refl) (λ i l. refl))
 
 pub renumbered-join : (g k m : Gluing) → Renumbered g k → Renumbered k m → Renumbered g m
 renumbered-join g k m r s =
@@ -160,7 +157,8 @@ least-is g z = record {
 }
 
 -- two readings of which none is earlier are one
-same-readings : (g k : Gluing) (x y : ℕ) → g .degree ≡ k .degree → earlier (reading g x) (reading k y) ≡ false → earlier (reading k y) (reading g x) ≡ false → reading g x ≡ reading k y
+same-readings : (g k : Gluing) (x y : ℕ) → g .degree ≡ k .degree
+    → earlier (reading g x) (reading k y) ≡ false → earlier (reading k y) (reading g x) ≡ false → reading g x ≡ reading k y
 unfolding earlier
 same-readings g k x y e l m =
     let a = reading g x in

@@ -1,15 +1,15 @@
 -- The squares that a numbering reaches: each once, and with each its neighbours.
 use mathlib.Core.Path.{_≡_, refl, sym, _∙_, ap, subst}
-use mathlib.Core.List.{List, [], _∷_, _++_, map}
+use mathlib.Core.List.{List, [], _∷_, _++_}
 use mathlib.Core.Logic.{inl, inr}
 use Prim.Native.Nat.{ℕ, zero, suc, _+_, _<_, _≤_}
 use native.Mathlib.Omega.{arith}
 use lib.ListN.{length, getD}
-use Rattle.std.proofs.shelf.Lists.{length-push, getD-append-left, getD-push, getD-past, map-push}
+use Rattle.std.proofs.shelf.Lists.{length-push, getD-append-left, getD-push, getD-past}
 use Rattle.std.proofs.shelf.Tests.{cases-eq, cases-lt}
-use Rattle.origami.specs.Squares.{Into, Apart, Permutes, Reached, here, right, up, place, added, visited, numbered}
-use Rattle.origami.specs.laws.Injections.{Between, pigeonhole, onto}
-use Rattle.origami.specs.laws.Places.{In, place-le, at-place, at-in, place-here, place-before, place-after, added-old, added-new, getD-map, place-map}
+use Rattle.origami.specs.Squares.{Into, Permutes, place, added, visited, numbered}
+use Rattle.origami.specs.laws.Injections.{pigeonhole, onto}
+use Rattle.origami.specs.laws.Places.{In, at-place, at-in, place-here, place-before, place-after, added-old, added-new}
 
 -- what is added is there, and what was there stays where it was
 
@@ -184,7 +184,8 @@ module _ (d : ℕ) (f g : ℕ → ℕ) (a : Into d f) (b : Into d g) (x : ℕ) (
   order-first = let s = order-listed d in subst (λ y. In y (numbered f g x d)) (s .first) (at-in 0 (numbered f g x d) x (s .begins))
 
 -- a list that a permutation keeps is kept by its inverse
-pub kept-back : (d x : ℕ) (xs : List ℕ) → Listed (λ y. y < d) x xs → (h : ℕ → ℕ) → Permutes d h → ((y : ℕ) → In y xs → In (h y) xs) → (y : ℕ) → y < d → In (h y) xs → In y xs
+pub kept-back : (d x : ℕ) (xs : List ℕ) → Listed (λ y. y < d) x xs → (h : ℕ → ℕ) → Permutes d h
+    → ((y : ℕ) → In y xs → In (h y) xs) → (y : ℕ) → y < d → In (h y) xs → In y xs
 kept-back d x xs s h p keeps y l i =
     let q : ℕ → ℕ = λ k. place (h (getD xs k x)) xs in
     let stays : (k : ℕ) → k < length xs → In (h (getD xs k x)) xs = λ k m. keeps (getD xs k x) (at-in k xs x m) in

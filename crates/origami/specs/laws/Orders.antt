@@ -1,5 +1,5 @@
 -- The order of lists by the first entry where they differ.
-use mathlib.Core.Path.{_≡_, refl, sym, _∙_, ap}
+use mathlib.Core.Path.{_≡_, refl, sym, _∙_}
 use mathlib.Core.Bool.{true, false, _&&_}
 use mathlib.Core.List.{List, [], _∷_}
 use mathlib.Core.Logic.{_⊎_, inl, inr}
@@ -7,7 +7,7 @@ use Prim.Native.Nat.{ℕ, _<_, _≤_}
 use native.Mathlib.Omega.{arith}
 use lib.Dec.{eqb, ltb}
 use lib.ListN.{length}
-use Rattle.std.proofs.shelf.Tests.{ltb-false, ltb-true, le-ltb, eqb-true, eqb-false, eq-eqb, ne-eqb, cases-eq, and-parts, and-cases, and-left, and-right, or-parts, or-from, or-cases, false≢true, true≢false}
+use Rattle.std.proofs.shelf.Tests.{ltb-false, ltb-true, le-ltb, eqb-true, eqb-false, ne-eqb, cases-eq, and-parts, and-cases, and-left, and-right, or-parts, or-from, or-cases, false≢true, true≢false}
 use Rattle.origami.specs.Forms.{less}
 
 late : (x y : ℕ) (xs ys : List ℕ) → less (x ∷ xs) (y ∷ ys) ≡ false → (y ≤ x) × (x ≡ y → less xs ys ≡ false)

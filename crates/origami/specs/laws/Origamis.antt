@@ -1,8 +1,7 @@
 -- The action on origamis keeps the laws of an action.
 use mathlib.Core.Path.{_≡_, refl, sym, _∙_, ap, subst}
-use mathlib.Core.Bool.{true, false, cond, _&&_}
+use mathlib.Core.Bool.{true, _&&_}
 use mathlib.Core.List.{List, [], _∷_}
-use mathlib.Core.Logic.{_↔_}
 use Prim.Native.Nat.{ℕ, zero, suc, _<_, _≤_}
 use native.Mathlib.Omega.{arith}
 use lib.Dec.{eqb, ltb, leb}
@@ -19,7 +18,7 @@ use Rattle.origami.specs.Gluings.{rightOf, upOf, Glues, Renumbered, sheared, t
 use Rattle.origami.specs.Origamis.{inside, insideBelow, IsPoint, shearedForm, turnedForm, alike, plainly}
 use Rattle.origami.specs.Squares.{Permutes, Undone, inverse}
 use Rattle.origami.specs.laws.Injections.{undone}
-use Rattle.origami.specs.laws.Leasts.{renumbered-back, renumbered-least, least-renumbered, least-glues, least-own, one-form}
+use Rattle.origami.specs.laws.Leasts.{renumbered-least, least-renumbered, least-glues, least-own}
 use Rattle.origami.specs.laws.Steps.{sheared-glues, turned-glues, sheared-renumbered, turned-renumbered, four-turns, three-turns}
 use Rattle.origami.specs.laws.Wholes.{whole-reached}
 
@@ -31,7 +30,8 @@ undone-permutes d f u = ((λ i l. u i l .0), λ i j l m e. sym (u i l .1) ∙ ap
 pub permutes-undone : (d : ℕ) (f : ℕ → ℕ) → Permutes d f → Undone d f
 permutes-undone d f p i l = (p .0 i l, undone d f p i l)
 
-pub held-glues : (g : Gluing) → (0 < g .degree) × (g .degree ≤ 16) → Undone (g .degree) (rightOf g) → Undone (g .degree) (upOf g) → length (order g 0) ≡ g .degree → Glues g
+pub held-glues : (g : Gluing) → (0 < g .degree) × (g .degree ≤ 16) → Undone (g .degree) (rightOf g) → Undone (g .degree) (upOf g)
+    → length (order g 0) ≡ g .degree → Glues g
 held-glues g s r u w = record {
   some = s .0;
   few = s .1;

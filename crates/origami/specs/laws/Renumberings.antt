@@ -1,16 +1,16 @@
 -- Renumberings can be undone and joined, and a numbering goes along with them.
 use mathlib.Core.Path.{_≡_, refl, sym, _∙_, ap, subst}
-use mathlib.Core.List.{List, [], _∷_, _++_, map}
+use mathlib.Core.List.{List, map}
 use mathlib.Core.Logic.{inl, inr}
-use Prim.Native.Nat.{ℕ, zero, suc, _<_, _≤_}
+use Prim.Native.Nat.{ℕ, zero, suc, _<_}
 use native.Mathlib.Omega.{arith}
 use lib.ListN.{length, getD}
 use Rattle.std.proofs.shelf.Lists.{length-map, map-push}
 use Rattle.std.proofs.shelf.Tests.{cases-lt}
-use Rattle.origami.specs.Squares.{Into, Apart, Permutes, inverse, Reached, here, right, up, Carries, place, added, visited, numbered, renumbered}
+use Rattle.origami.specs.Squares.{Into, Apart, Permutes, inverse, Carries, place, added, visited, numbered}
 use Rattle.origami.specs.laws.Injections.{undone, redone, inverse-into, inverse-permutes, onto}
-use Rattle.origami.specs.laws.Numberings.{Listed, listed-added, listed-short, listed-full, full-long, numbered-listed, order-listed, order-right, order-up, order-first, kept-back}
-use Rattle.origami.specs.laws.Places.{In, at-place, place-map, getD-map, added-old, added-new}
+use Rattle.origami.specs.laws.Numberings.{Listed, listed-added, order-listed}
+use Rattle.origami.specs.laws.Places.{place-map, getD-map, added-old, added-new}
 
 -- pairs that agree below d
 pub carries-same : (d : ℕ) (f g h k : ℕ → ℕ) → ((i : ℕ) → i < d → f i ≡ h i) → ((i : ℕ) → i < d → g i ≡ k i) → Carries d (λ i. i) f g h k

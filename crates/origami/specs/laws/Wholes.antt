@@ -1,9 +1,8 @@
 -- Pairs of permutations whose numberings have all squares: those where each square is reached from square 0.
-use mathlib.Core.Path.{_≡_, refl, sym, _∙_, ap, subst}
-use mathlib.Core.List.{List, map}
-use Prim.Native.Nat.{ℕ, _<_, _≤_}
+use mathlib.Core.Path.{_≡_, sym, _∙_, ap, subst}
+use Prim.Native.Nat.{ℕ, _<_}
 use native.Mathlib.Omega.{arith}
-use lib.ListN.{length, getD}
+use lib.ListN.{length}
 use Rattle.std.proofs.shelf.Lists.{length-map}
 use Rattle.origami.specs.Squares.{Into, Permutes, inverse, Reached, here, right, up, Carries, place, numbered}
 use Rattle.origami.specs.laws.Injections.{joined-permutes, undone, inverse-into, inverse-permutes, onto}
@@ -22,7 +21,8 @@ module _ (d : ℕ) (f g : ℕ → ℕ) (a : Into d f) (b : Into d g) (x : ℕ) (
       omega (arith, full-long d x xs h, listed-short d x xs (order-listed d f g a b x lx d))
 
   -- what a whole numbering has, holds of each square
-  pub whole-all : {P : ℕ → Type 0} → length (numbered f g x d) ≡ d → P x → ((y : ℕ) → P y → P (f y)) → ((y : ℕ) → P y → P (g y)) → (y : ℕ) → y < d → P y
+  pub whole-all : {P : ℕ → Type 0} → length (numbered f g x d) ≡ d
+      → P x → ((y : ℕ) → P y → P (f y)) → ((y : ℕ) → P y → P (g y)) → (y : ℕ) → y < d → P y
   whole-all {P} w p r u y l =
       let xs = numbered f g x d in
       subst P (at-place y xs x (listed-full d x xs (order-listed d f g a b x lx d) w y l)) (numbered-listed f g x p r u d .all (place y xs))

@@ -2,12 +2,12 @@
 ghost use mathlib.Core.Path.{_≡_};
 ghost use mathlib.Core.Logic.{_↔_};
 ghost use lib.Dec.{T};
-ghost use Rattle.modular.specs.Actions.{Member};
+ghost use Rattle.modular.specs.Acting.{MemberOf};
 ghost use Rattle.origami.specs.contracts.origami.OrigamiAction.the-impl.{ghosts as action};
 ghost use Rattle.origami.specs.Forms.{least, IsLeast};
 ghost use Rattle.origami.specs.Gluings.{Renumbered};
-ghost use Rattle.origami.specs.Listings.{Accepted, Declined, listed};
-ghost use Rattle.origami.specs.Origamis.{IsPoint, VeechGroup, OneForm};
+ghost use Rattle.origami.specs.Listings.{Declined};
+ghost use Rattle.origami.specs.Origamis.{IsPoint, OneForm, Made};
 ghost use Rattle.std.specs.Results.{Cases};
 use crate::form::least;
 use crate::gluing::Gluing;
@@ -20,7 +20,7 @@ use modular::action::Action;
 impl Origami {
     // The origami of two lists, which give for each square what is right of it and what is above it. Squares count from 1 here.
     pub fn new(right: &[u32], up: &[u32]) -> Result<Origami, Refusal>
-        ensures { λ r. ⌜ Cases r (λ a. Accepted (now (right .entry)) (now (up .entry)) × (a .gluing ≡ listed (now (right .entry)) (now (up .entry))) × VeechGroup (a .gluing) (Member (action .start a) (action .stepT a) (action .stepS a))) (Declined (now (right .entry)) (now (up .entry))) ⌝ }
+        ensures { λ r. ⌜ Cases r (λ a. Made (now (right .entry)) (now (up .entry)) (a .gluing) (MemberOf action a)) (Declined (now (right .entry)) (now (up .entry))) ⌝ }
     {
         Ok(Origami {
             gluing: listed(right, up)?,

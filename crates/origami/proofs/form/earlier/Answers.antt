@@ -22,7 +22,8 @@ returns-then-eq c =
     let l : length (a .right) ≡ length (b .right) = search needs in
     let first = lt-is (a .right) (b .right) (c .lt .result) (c .lt .ensures) in
     let same = eq-is (a .right) (b .right) (c .eq .result) (c .eq .ensures) in
-    earlier-is a b false true (c .lt-then-eq .result) l (sym (c .if-lt .left) ∙ first) (sym (c .if-eq .taken) ∙ same) (lt-is (a .up) (b .up) (c .lt-then-eq .result) (c .lt-then-eq .ensures))
+    earlier-is a b false true (c .lt-then-eq .result) l (sym (c .if-lt .left) ∙ first) (sym (c .if-eq .taken) ∙ same)
+    (lt-is (a .up) (b .up) (c .lt-then-eq .result) (c .lt-then-eq .ensures))
 
 pub returns-else-eq : need.returns-else-eq
 returns-else-eq c =

@@ -1,6 +1,6 @@
-use mathlib.Core.Path.{_≡_, _∙_, ap}
+use mathlib.Core.Path.{_∙_}
 use native.Mathlib.Omega.{arith}
-use Rattle.origami.specs.Forms.{reading, better, smallest}
+use Rattle.origami.specs.Forms.{reading, better}
 use Rattle.origami.proofs.Smallest.{smallest-more, smallest-all}
 use Rattle.origami.proofs.form.least.Needs as need
 

@@ -23,4 +23,4 @@ pub returns : need.returns
 returns c =
     let g = c .in-Continue-listed .field-0 in
     let p = c .in-Continue-listed .ensures tt in
-    (p .0, p .1, veech-group g (accepted-glues (c .args .right .now) (c .args .up .now) g p))
+    record { accepted = p .0; as-listed = p .1; veech = veech-group g (accepted-glues (c .args .right .now) (c .args .up .now) g p) }
