@@ -7,7 +7,7 @@ use native.Mathlib.Omega.{arith}
 use lib.Dec.{leb, ltb}
 use lib.IntN.{ℤ, pos, negsuc}
 use lib.ListN.{length, getD, drop, length-map}
-use borrow.Author.Tests.{eqb-true, ltb-true}
+use borrow.Author.Tests.{eqb-true, ltb-true, ltb-false}
 use Rattle.std.proofs.shelf.Tests.{and-parts}
 use Rattle.std.specs.declared.result.Result.the-variants.{Ok, Err}
 use Rattle.modular.specs.declared.letter.Letter.{Letter}
@@ -15,6 +15,7 @@ use Rattle.modular.specs.Matrix.{M2, det, identity}
 use Rattle.modular.specs.Words.{matrix}
 use Rattle.table.specs.declared.link.Link.{Link}
 use Rattle.table.specs.declared.refusal.Refusal.{Refusal}
+use Rattle.table.specs.declared.refusal.Refusal.the-variants.{NoSuch}
 use Rattle.table.specs.Acting.{wordOf}
 use Rattle.table.specs.Facts.{Finished}
 use Rattle.table.specs.Finished.{rowOf}
@@ -22,8 +23,9 @@ use Rattle.table.specs.Generators.{generatorAt, otherEdges}
 use Rattle.table.specs.Matrices.{MatrixLaw}
 use Rattle.table.specs.Order.{Least}
 use Rattle.table.specs.Placing.{placed}
-use Rattle.table.specs.Questions.{within, isOne, placeBy, characters, character, spellBy, generateBy, edgeOf}
-use Rattle.table.specs.Runs.{Told, place, spell, generator}
+use Rattle.table.specs.Questions.{within, isOne, placeBy, characters, character, spellBy, generateBy, edgeOf, measureBy}
+use Rattle.table.specs.Runs.{Told, place, spell, generator, width-of}
+use Rattle.table.specs.Widths.{IsWidth, width}
 use Rattle.table.proofs.SoundRows.{lead-row}
 use Rattle.table.proofs.FinishedLaws.{sound-links-law}
 
@@ -52,6 +54,14 @@ spell-declined : (a b : Bool) (w out : List ℕ) (e : Refusal) → spellBy a b w
 spell-declined false b w out e d = refl
 spell-declined true false w out e d = refl
 spell-declined true true w out e d = let z : _≡_ {A = ℕ} 0 1 = cc in absurd (omega arith)
+
+measure-tests : (a : Bool) (x w : ℕ) → measureBy a x ≡ Ok w → (a ≡ true) × (x ≡ w)
+measure-tests false x w e = let z : _≡_ {A = ℕ} 0 1 = cc in absurd (omega arith)
+measure-tests true x w e = (refl, (cc))
+
+measure-declined : (a : Bool) (x : ℕ) (e : Refusal) → measureBy a x ≡ Err e → (e ≡ NoSuch) × (a ≡ false)
+measure-declined false x e d = ((cc), refl)
+measure-declined true x e d = let z : _≡_ {A = ℕ} 0 1 = cc in absurd (omega arith)
 
 -- the generator with a number is the matrix of its edge
 numbered : (f : ℕ → M2) (xs : List ℕ) (k : ℕ) → k < length xs → getD (map f xs) k identity ≡ f (getD xs k 0)
@@ -101,3 +111,12 @@ module _ {R : Type 0} (start : R) (t s : R → R) (rows : List R) (links : List 
       let c = sound-links-law links (f .sound) .count in
       let m = length-map (otherEdges links) (generatorAt links) in
       (omega arith, sym (p .1) ∙ sym (numbered (generatorAt links) (otherEdges links) k (omega arith)))
+
+  pub width-told : (r : ℕ) → Told start t s rows links (width-of r)
+  width-told r = (
+    λ w e. let p = measure-tests _ (width links r) w e in
+        let h = ltb-true r (length links) (p .0) in
+        (h, subst (IsWidth links r) (p .1) (sound-links-law links (f .sound) .widths r h)),
+    λ e d. let p = measure-declined _ (width links r) e d in
+        (p .0, ltb-false r (length links) (p .1)),
+  )

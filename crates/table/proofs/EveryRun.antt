@@ -53,9 +53,12 @@ use Rattle.table.specs.Runs.{
   place,
   spell,
   generator,
+  width-of,
+  shape-of,
 }
-use Rattle.table.proofs.Asked.{matrix-law, place-told, spell-told, generator-told}
+use Rattle.table.proofs.Asked.{matrix-law, place-told, spell-told, generator-told, width-told}
 use Rattle.table.proofs.Filling.{Good, open-good, open-counted, fill-good, fill-aimed, fill-declined}
+use Rattle.table.proofs.FinishedLaws.{sound-links-law}
 use Rattle.table.proofs.Following.{following-leads, followed-leads, followed-all}
 use Rattle.table.proofs.Outcomes.{refused}
 use Rattle.table.proofs.Standing.{good-growth, good-finished, none-left, close-is}
@@ -128,6 +131,8 @@ module _ {R : Type 0} (start : R) (t s : R → R) (agrees : R → R → Bool) wh
   question-sure rows links f (place x) = place-told start t s rows links f x
   question-sure rows links f (spell r out) = spell-told start t s rows links f r out
   question-sure rows links f (generator k limit) = generator-told start t s rows links f k limit
+  question-sure rows links f (width-of r) = width-told start t s rows links f r
+  question-sure rows links f shape-of = sound-links-law links (f .sound) .cusps
 
   -- what is kept along a run, from which the rest follows
   abbrev Fine : (size : ℕ) → Table R → List (Event R size) → Type 0

@@ -2,6 +2,7 @@
 --     placing links x            place, by its tests placeBy: the row of a matrix
 --     spelling links r out       spell, by its tests spellBy: the length of the row's word, and the output after it
 --     generating links k limit   generator, by its tests generateBy: the generator with the number k
+--     measuring links r          width, by its test measureBy: the width of a row; shape never declines
 -- and for these
 --     within n x                 no entry of x is beyond n either side of 0
 --     isOne z                    z is 1
@@ -28,6 +29,7 @@ use Rattle.table.specs.Acting.{wordOf}
 use Rattle.table.specs.Generators.{generatorAt, otherEdges}
 use Rattle.table.specs.Links.{aimAt, letterAt}
 use Rattle.table.specs.Placing.{placed}
+use Rattle.table.specs.Widths.{width}
 
 abbrev pub within : ℕ → M2 → Bool
 within n x = (leb (natAbs (x .a)) n && leb (natAbs (x .b)) n) && (leb (natAbs (x .c)) n && leb (natAbs (x .d)) n)
@@ -87,3 +89,11 @@ edgeOf links k = getD (otherEdges links) k 0
 abbrev pub generating : List Link → ℕ → ℕ → Result M2 Refusal
 generating links k limit =
     generateBy (ltb k (length links + 1)) (ltb 0 limit && leb limit 1000000000) (narrow links limit (edgeOf links k)) (generatorAt links (edgeOf links k))
+
+-- by its test: there is such a row
+abbrev pub measureBy : (row : Bool) → ℕ → Result ℕ Refusal
+measureBy false w = Err NoSuch
+measureBy true w = Ok w
+
+abbrev pub measuring : List Link → ℕ → Result ℕ Refusal
+measuring links r = measureBy (ltb r (length links)) (width links r)

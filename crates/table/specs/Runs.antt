@@ -39,16 +39,18 @@ use Rattle.table.specs.declared.counts.Counts.{Counts}
 use Rattle.table.specs.declared.counts.Filled.{Filled}
 use Rattle.table.specs.declared.link.Link.{Link}
 use Rattle.table.specs.declared.refusal.Refusal.{Refusal}
-use Rattle.table.specs.declared.refusal.Refusal.the-variants.{Memory, Unfilled, Unsound}
+use Rattle.table.specs.declared.refusal.Refusal.the-variants.{Memory, Unfilled, Unsound, NoSuch}
 use Rattle.table.specs.Facts.{Growth, Kept, Aimed, Declined, Finished, Led}
-use Rattle.table.specs.Questions.{characters, Spelled, placing, spelling, generating}
+use Rattle.table.specs.Questions.{characters, Spelled, placing, spelling, generating, measuring}
 use Rattle.table.specs.Growing.{Growing, opened, filling, following, followed, closing}
 use Rattle.table.specs.Finished.{rowOf}
 use Rattle.table.specs.Generators.{generators}
 use Rattle.table.specs.Links.{next}
 use Rattle.table.specs.Matrices.{MatrixLaw}
 use Rattle.table.specs.Order.{Least}
+use Rattle.table.specs.Shapes.{Shape, shape, CuspLaw}
 use Rattle.table.specs.SoundTest.{sound}
+use Rattle.table.specs.Widths.{IsWidth}
 
 pub data Handed (R : Type 0) (size : ℕ) : Type 0 where
   own : Handed R size
@@ -69,11 +71,15 @@ pub data Question : Type 0 where
   place : M2 → Question
   spell : ℕ → List ℕ → Question
   generator : ℕ → ℕ → Question
+  width-of : ℕ → Question
+  shape-of : Question
 
 pub data Reply : Type 0 where
   row : Result ℕ Refusal → Reply
   spells : Spelled → Reply
   generates : Result M2 Refusal → Reply
+  measures : Result ℕ Refusal → Reply
+  shapes : Shape → Reply
 
 pub data Event (R : Type 0) (size : ℕ) : Type 0 where
   call : Call R size → Answer → Event R size
@@ -123,6 +129,8 @@ replied links (follow-on word) = row (followed links word)
 replied links (place x) = row (placing links x)
 replied links (spell r out) = spells (spelling links r out)
 replied links (generator k limit) = generates (generating links k limit)
+replied links (width-of r) = measures (measuring links r)
+replied links shape-of = shapes (shape links)
 
 module _ {R : Type 0} (start : R) (t s : R → R) where
   -- rows are one more than the new ones, and the filled edges are the accepted fills
@@ -132,7 +140,8 @@ module _ {R : Type 0} (start : R) (t s : R → R) where
 
   -- an accepted follow answers the row to which its word leads, and each word of at most 1,000 letters is followed; an accepted
   -- place answers the row to which every word of its matrix leads; an accepted spell writes the row's least word to the start of
-  -- its output and touches nothing behind it; an accepted generator answers the one of its number; declined, nothing is written
+  -- its output and touches nothing behind it; an accepted generator answers the one of its number; declined, nothing is written; an
+  -- accepted width is the least positive number of T steps that leads back to the row; the cusps of a shape are the T-cycles
   abbrev pub Told : List R → List Link → Question → Type 0
   Told rows links (follow-on word) =
       ((r : ℕ) → followed links word ≡ Ok r → Led start t s rows (length links) word r)
@@ -145,6 +154,10 @@ module _ {R : Type 0} (start : R) (t s : R → R) where
       × ((e : Refusal) → spelling links r out .answer ≡ Err e → spelling links r out .out ≡ out)
   Told rows links (generator k limit) =
       (x : M2) → generating links k limit ≡ Ok x → (k < length (generators links)) × (x ≡ getD (generators links) k identity)
+  Told rows links (width-of r) =
+      ((w : ℕ) → measuring links r ≡ Ok w → (r < length links) × IsWidth links r w)
+      × ((e : Refusal) → measuring links r ≡ Err e → (e ≡ NoSuch) × (length links ≤ r))
+  Told rows links shape-of = CuspLaw links
 
   module _ (agrees : R → R → Bool) where
     abbrev pub answered : {size : ℕ} → Growing R → Call R size → Answer

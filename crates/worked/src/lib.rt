@@ -4,8 +4,8 @@ ghost use Rattle.worked.specs.Examples.{Worked};
 
 // How many examples there are. All of them hold, of the definitions themselves.
 pub fn examples() -> u8
-    ensures count { λ r. ⌜ r ≡ 4 ⌝ }
+    ensures count { λ r. ⌜ r ≡ 10 ⌝ }
     ensures hold { λ _. ⌜ Worked ⌝ }
 {
-    4
+    10
 }
