@@ -1,27 +1,20 @@
 -- Words as numbers: the order of words is the order of their codes. Proofs read words backwards, last letter first.
---     bit g       0 for T, 1 for S
 --     code p      the number of the word that p is backwards: 1, and for each letter twice as much and its bit
 --     place p     where that word leads from the start
 use mathlib.Core.Path.{_≡_, refl, sym, ap, _∙_}
 use mathlib.Core.List.{List, [], _∷_, reverse, reverseAux, reverse-reverse}
-use mathlib.Core.Logic.{inl, inr}
-use Prim.Native.Nat.{ℕ, zero, suc, _+_, _*_, _%_, _/_, _≤_, _<_}
+use Prim.Native.Nat.{ℕ, zero, suc, _+_, _*_, _%_, _/_, _<_}
 use native.Mathlib.Omega.{arith}
 use lib.Dec.{eqb}
-use lib.ListN.{length}
 use mathlib.Core.Bool.{Bool, true, false}
 use borrow.Author.Tests.{eqb-true, eqb-false}
-use Rattle.std.proofs.shelf.Tests.{cases-order}
 use Rattle.modular.specs.declared.letter.Letter.{Letter}
 use Rattle.modular.specs.declared.letter.Letter.the-variants.{T, S}
 use Rattle.modular.specs.Actions.{lead}
 use Rattle.table.specs.Growing.{step}
 use Rattle.table.specs.Links.{edge, letterAt}
-use Rattle.table.specs.Order.{Earlier, Less}
-
-abbrev pub bit : Letter → ℕ
-bit T = 0
-bit S = 1
+use Rattle.table.specs.Order.{Less}
+use Rattle.table.proofs.Numbered.{bit, bit-small, onto, less-num, num-less}
 
 abbrev pub code : List Letter → ℕ
 code [] = 1
@@ -31,73 +24,16 @@ pub code-positive : (p : List Letter) → 0 < code p
 code-positive [] = omega arith
 code-positive (g ∷ p) = omega (arith, code-positive p)
 
--- the same of a word read forwards, after a beginning with the code a
-abbrev onward : ℕ → List Letter → ℕ
-onward a [] = a
-onward a (g ∷ w) = onward (2 * a + bit g) w
-
-onward-reverse : (p w : List Letter) → onward 1 (reverseAux p w) ≡ onward (code p) w
-onward-reverse [] w = refl
-onward-reverse (g ∷ p) w = onward-reverse p (g ∷ w)
-
-onward-above : (a : ℕ) (w : List Letter) → a ≤ onward a w
-onward-above a [] = omega arith
-onward-above a (g ∷ w) = omega (arith, onward-above (2 * a + bit g) w)
-
-pub bit-small : (g : Letter) → bit g < 2
-bit-small T = omega arith
-bit-small S = omega arith
-
--- a shorter word has a smaller code
-shorter-onward : (a b : ℕ) (u v : List Letter) → a < 2 * b → length u < length v → onward a u < onward b v
-shorter-onward a b [] [] h l = absurd (omega arith)
-shorter-onward a b [] (k ∷ v) h l = omega (arith, onward-above (2 * b + bit k) v)
-shorter-onward a b (g ∷ u) [] h l = absurd (omega arith)
-shorter-onward a b (g ∷ u) (k ∷ v) h l = shorter-onward (2 * a + bit g) (2 * b + bit k) u v (omega (arith, bit-small g)) (omega arith)
-
--- of two words of one length, the one with the smaller beginning has the smaller code
-smaller-onward : (a b : ℕ) (u v : List Letter) → a < b → length u ≡ length v → onward a u < onward b v
-smaller-onward a b [] [] h l = h
-smaller-onward a b [] (k ∷ v) h l = absurd (omega arith)
-smaller-onward a b (g ∷ u) [] h l = absurd (omega arith)
-smaller-onward a b (g ∷ u) (k ∷ v) h l = smaller-onward (2 * a + bit g) (2 * b + bit k) u v (omega (arith, bit-small g)) (omega arith)
-
-earlier-onward : (a : ℕ) (u v : List Letter) → length u ≡ length v → Earlier u v → onward a u < onward a v
-earlier-onward a [] v l e = absurd e
-earlier-onward a (T ∷ u) [] l e = absurd e
-earlier-onward a (S ∷ u) [] l e = absurd e
-earlier-onward a (T ∷ u) (T ∷ v) l e = earlier-onward (2 * a + 0) u v (omega arith) e
-earlier-onward a (T ∷ u) (S ∷ v) l e = smaller-onward (2 * a + 0) (2 * a + 1) u v (omega arith) (omega arith)
-earlier-onward a (S ∷ u) (T ∷ v) l e = absurd e
-earlier-onward a (S ∷ u) (S ∷ v) l e = earlier-onward (2 * a + 1) u v (omega arith) e
-
-onward-earlier : (a : ℕ) (u v : List Letter) → length u ≡ length v → onward a u < onward a v → Earlier u v
-onward-earlier a [] [] l h = absurd (omega arith)
-onward-earlier a [] (k ∷ v) l h = absurd (omega arith)
-onward-earlier a (T ∷ u) [] l h = absurd (omega arith)
-onward-earlier a (S ∷ u) [] l h = absurd (omega arith)
-onward-earlier a (T ∷ u) (T ∷ v) l h = onward-earlier (2 * a + 0) u v (omega arith) h
-onward-earlier a (T ∷ u) (S ∷ v) l h = tt
-onward-earlier a (S ∷ u) (T ∷ v) l h = absurd (omega (arith, smaller-onward (2 * a + 0) (2 * a + 1) v u (omega arith) (omega arith)))
-onward-earlier a (S ∷ u) (S ∷ v) l h = onward-earlier (2 * a + 1) u v (omega arith) h
-
-less-onward : (u v : List Letter) → Less u v → onward 1 u < onward 1 v
-less-onward u v (inl l) = shorter-onward 1 1 u v (omega arith) l
-less-onward u v (inr e) = earlier-onward 1 u v (e .0) (e .1)
-
-onward-less : (u v : List Letter) → onward 1 u < onward 1 v → Less u v
-onward-less u v h = elim (cases-order (length u) (length v)) [
-  | inl e ↦ inr (e, onward-earlier 1 u v e h)
-  | inr (inl l) ↦ inl l
-  | inr (inr l) ↦ absurd (omega (arith, shorter-onward 1 1 v u (omega arith) l))
-]
+code-onto : (p w : List Letter) → onto 1 (reverseAux p w) ≡ onto (code p) w
+code-onto [] w = refl
+code-onto (g ∷ p) w = code-onto p (g ∷ w)
 
 -- the order of two words that are p and q backwards is that of their codes
 pub less-code : (p q : List Letter) → Less (reverse p) (reverse q) → code p < code q
-less-code p q l = omega (arith, less-onward (reverse p) (reverse q) l, onward-reverse p [], onward-reverse q [])
+less-code p q l = omega (arith, less-num (reverse p) (reverse q) l, code-onto p [], code-onto q [])
 
 pub code-less : (p q : List Letter) → code p < code q → Less (reverse p) (reverse q)
-code-less p q h = onward-less (reverse p) (reverse q) (omega (arith, onward-reverse p [], onward-reverse q []))
+code-less p q h = num-less (reverse p) (reverse q) (omega (arith, code-onto p [], code-onto q []))
 
 module _ {R : Type 0} (start : R) (t s : R → R) where
   abbrev pub place : List Letter → R

@@ -14,7 +14,8 @@ use Rattle.std.proofs.shelf.Tests.{cases-lt, cases-eq, cases-order}
 use Rattle.modular.specs.declared.letter.Letter.{Letter}
 use Rattle.table.specs.Growing.{step}
 use Rattle.table.specs.Links.{edge, letterAt}
-use Rattle.table.proofs.Codes.{bit, bit-small, code, place, code-positive, letterAt-bit, letterAt-edge, row-edge, edge-bit}
+use Rattle.table.proofs.Codes.{code, place, code-positive, letterAt-bit, letterAt-edge, row-edge, edge-bit}
+use Rattle.table.proofs.Numbered.{bit, bit-small}
 
 -- a function of numbers with another value at n
 module _ {A : Type 0} where

@@ -17,7 +17,8 @@ use Rattle.table.specs.declared.link.Link.{Link}
 use Rattle.table.specs.Links.{at, edge, letterAt, aimAt, next}
 use Rattle.table.specs.SoundTest.{named, fits, counted, lawful, fair, swept, SoundTells}
 use Rattle.table.specs.Soundness.{Sound}
-use Rattle.table.proofs.Codes.{bit-small, edge-bit, edge-of}
+use Rattle.table.proofs.Codes.{edge-bit, edge-of}
+use Rattle.table.proofs.Numbered.{bit-small}
 use Rattle.table.proofs.Writes.{next-inside, parent-named, letter-named}
 
 module _ (links : List Link) where
