@@ -37,7 +37,7 @@ held-negative r m zero e h = omega (arith, ints)
 held-negative r m (suc v) e h = omega (arith, ints)
 
 -- digits have no comma
-digits-lack : (f : List ℕ) → Digits f → Lacks 44 f
+pub digits-lack : (f : List ℕ) → Digits f → Lacks 44 f
 digits-lack f d k h e = let g = d .each k h .0 in omega (arith, g)
 
 pub spelt-lacks : (f : List ℕ) (z : ℤ) → Spells f z → Lacks 44 f

@@ -3,6 +3,7 @@ pub mod Faults
 pub mod Format
 pub mod Jobs
 pub mod Line
+pub mod Lists
 pub mod Members
 pub mod Numbers
 pub mod Objects

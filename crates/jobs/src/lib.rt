@@ -3,6 +3,7 @@ mod bytes;
 pub mod fault;
 pub mod job;
 mod lines;
+pub mod list;
 pub mod members;
 mod number;
 pub mod object;
