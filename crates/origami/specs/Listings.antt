@@ -2,6 +2,8 @@
 --     target xs i        the square that xs gives for the square i, both counted from 0
 --     FitDegree xs       xs gives 1 to 16 squares
 --     Lists d xs         xs lists 1 to d once each
+--     FitRight xs        what the maker asks of its first list alone
+--     DeclinedRight xs e   e is the first of these tests that it fails
 --     listed xs ys       the gluing of the lists
 --     AllReached g       each square of g is reached from square 0
 --     Accepted xs ys     what the maker asks of its lists
@@ -26,6 +28,14 @@ pub record Lists (d : ℕ) (xs : List ℕ) : Type 0 where
   pub long : length xs ≡ d
   pub within : (i : ℕ) → i < d → (1 ≤ getD xs i 0) × (getD xs i 0 ≤ d)
   pub once : (i j : ℕ) → i < d → j < d → getD xs i 0 ≡ getD xs j 0 → i ≡ j
+
+abbrev pub FitRight : List ℕ → Type 0
+FitRight xs = FitDegree xs × Lists (length xs) xs
+
+abbrev pub DeclinedRight : List ℕ → Refusal → Type 0
+DeclinedRight xs Degree = FitDegree xs → ⊥
+DeclinedRight xs NotPermutation = FitDegree xs × (Lists (length xs) xs → ⊥)
+DeclinedRight xs NotReached = ⊥
 
 abbrev pub listed : List ℕ → List ℕ → Gluing
 listed xs ys = record { degree = length xs; right = padded (length xs) (target xs); up = padded (length xs) (target ys) }

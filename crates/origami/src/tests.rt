@@ -74,5 +74,7 @@ fn lists_are_declined() -> Result<(), Fail> {
     check_eq(refused(&[2, 1], &[1, 2, 3]), 4)?;
     check_eq(refused(&[2, 1], &[1, 3]), 4)?;
     check_eq(refused(&[2, 1], &[0, 1]), 4)?;
-    check_eq(refused(&[1, 2], &[1, 2]), 5)
+    check_eq(refused(&[1, 2], &[1, 2]), 5)?;
+    check(Origami::check_right(&[1, 2]).is_ok())?;
+    check(Origami::check_right(&[1, 1]).is_err())
 }

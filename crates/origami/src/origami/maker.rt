@@ -6,12 +6,13 @@ ghost use Rattle.modular.specs.Acting.{MemberOf};
 ghost use Rattle.origami.specs.contracts.origami.OrigamiAction.the-impl.{ghosts as action};
 ghost use Rattle.origami.specs.Forms.{least, IsLeast};
 ghost use Rattle.origami.specs.Gluings.{Renumbered};
-ghost use Rattle.origami.specs.Listings.{Declined};
+ghost use Rattle.origami.specs.Listings.{Declined, FitRight, DeclinedRight};
 ghost use Rattle.origami.specs.Origamis.{IsPoint, OneForm, Made};
 ghost use Rattle.std.specs.Results.{Cases};
 use crate::form::least;
 use crate::gluing::Gluing;
 use crate::listing::listed;
+use crate::listing::listed_right;
 use crate::origami::Origami;
 use crate::origami::OrigamiAction;
 use crate::refusal::Refusal;
@@ -25,6 +26,14 @@ impl Origami {
         Ok(Origami {
             gluing: listed(right, up)?,
         })
+    }
+
+    // Whether the first list alone lets an origami be made: its length is a degree, and it lists each square once.
+    pub fn check_right(right: &[u32]) -> Result<(), Refusal>
+        ensures { λ r. ⌜ Cases r (λ _. FitRight (now (right .entry))) (DeclinedRight (now (right .entry))) ⌝ }
+    {
+        listed_right(right)?;
+        Ok(())
     }
 
     // The gluing that was given.

@@ -1,14 +1,12 @@
 -- Each turn takes one number and its comma, and what is behind the last comma is the last number.
-use mathlib.Core.Path.{_≡_, refl, sym, ap, subst, _∙_}
+use mathlib.Core.Path.{refl, sym, ap, _∙_}
 use mathlib.Core.List.{[], _∷_, _++_}
 use Prim.Native.Nat.{min}
 use native.Mathlib.Omega.{arith}
 use lib.ListN.{length, length-append}
-use Rattle.std.specs.Of.Vec.{vec-items}
 use Rattle.std.proofs.shelf.Lists.{map-append}
 use Rattle.std.proofs.shelf.Parts.{pushed}
 use Rattle.std.proofs.shelf.Results.{err-from-errBy}
-use Rattle.jobs.specs.Lists.{cappedAll}
 use Rattle.jobs.specs.Numbers.{value}
 use Rattle.jobs.proofs.Listed.{begun-more, begun-ends, rest-says, bad-field, bad-last}
 use Rattle.jobs.proofs.list.numbers.Needs as need
