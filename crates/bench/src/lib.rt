@@ -1,4 +1,5 @@
 // Work for the benchmark of bench/, exported for a Rust program to link. Each call answers a checksum, or 0 where a level, an
+#![tactic(auto)]
 // origami or the memory is declined.
 use levels::lines::Lines;
 use levels::matrices::Matrices;

@@ -1,4 +1,5 @@
 // Runs worked examples and published tables against the library, and prints what came beside what was expected.
+#![tactic(auto)]
 use tally::Tally;
 
 mod asking;

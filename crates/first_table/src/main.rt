@@ -1,4 +1,5 @@
 // A first program over the library: the table of the lines of level 6.
+#![tactic(auto)]
 use anyhow::anyhow;
 use levels::lines::Lines;
 use levels::vectors::Vector;

@@ -9,7 +9,7 @@ use crate::letter::Letter;
 
 // The step of one letter.
 pub fn step<A: Action>(action: &A, from: A::Record, letter: Letter) -> A::Record
-    ensures { result ≡ lead (step_t action.now) (step_s action.now) (letter ∷ []) from }
+    ensures { result ≡ lead (A.step_t action.now) (A.step_s action.now) (letter ∷ []) from }
 {
     match letter {
         Letter::T => action.t(from),
@@ -19,7 +19,7 @@ pub fn step<A: Action>(action: &A, from: A::Record, letter: Letter) -> A::Record
 
 // The record to which a word leads, left letter first.
 pub fn lead_from<A: Action>(action: &A, from: A::Record, word: &[Letter]) -> A::Record
-    ensures value { result ≡ lead (step_t action.now) (step_s action.now) word.now from }
+    ensures value { result ≡ lead (A.step_t action.now) (A.step_s action.now) word.now from }
     ensures through_matrix { ThroughMatrix A.Action action.now }
     ensures has_word { EveryMatrixHasWord }
 {

@@ -1,4 +1,5 @@
 // Coset tables: rows of records, and the links between them.
+#![tactic(auto)]
 pub mod counts;
 mod cycle;
 mod edges;

@@ -1,4 +1,5 @@
 // Worked examples, checked as facts about the definitions.
+#![tactic(auto)]
 ghost use Rattle.std.specs.Prelude.{◌≡◌};
 ghost use Rattle.worked.specs.Examples.{Worked};
 

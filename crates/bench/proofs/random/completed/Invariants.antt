@@ -2,8 +2,8 @@
 use Rattle.std.proofs.Common.{◌<◌}
 use Rattle.bench.proofs.random.completed.Given as goal
 
-abbrev pub invariant-loop-next-r : goal.invariant-loop-next-r
-invariant-loop-next-r l = 0 < l.r
+abbrev pub invariant-loop-next_r : goal.invariant-loop-next_r
+invariant-loop-next_r l = 0 < l.r
 
-abbrev pub decreases-loop-next-r : goal.decreases-loop-next-r
-decreases-loop-next-r l = l.next-r
+abbrev pub decreases-loop-next_r : goal.decreases-loop-next_r
+decreases-loop-next_r l = l.next_r

@@ -3,11 +3,11 @@ use Rattle.std.proofs.lemmas.Result.{err_from_is_err_and}
 use Rattle.job_texts.specs.Line.{form, unread}
 use Rattle.job_texts.proofs.lines.mirror_line.Goals as goal
 
-pub returns-in-err-body : goal.returns-in-err-body
-returns-in-err-body c =
-    let p = err_from_is_err_and c.from-residual.result c.from-residual.ensures.1 in
-    let f = c.in-err-body.ensures in
+pub returns-in_err-body : goal.returns-in_err-body
+returns-in_err-body c =
+    let p = err_from_is_err_and c.from_residual.result c.from_residual.ensures.1 in
+    let f = c.in_err-body.ensures in
     rw (p.1, p.2, f.0) (form f.1)
 
 pub returns-in-None : goal.returns-in-None
-returns-in-None c = unread _ _ c.in-ok-body.ensures c.in-None.ensures
+returns-in-None c = unread _ _ c.in_ok-body.ensures c.in-None.ensures

@@ -7,27 +7,27 @@ use Rattle.job_texts.proofs.Fields.{bare_minus, no_number, held, held_negative}
 use Rattle.job_texts.proofs.number.integer.Goals as goal
 use Rattle.std.proofs.lemmas.Bool.Decides.{Decides-eqb}
 
-pub returns-in-err-natural : goal.returns-in-err-natural
-returns-in-err-natural c =
-    let a = c.in-err-natural.ensures in
-    let e = MatchOption-at_some _ _ _ c.in-Some.is (strip_prefix_is Decides-eqb c.args.field.now (45 ∷ []) c.strip-prefix.result c.strip-prefix.ensures.cases) in
-    let p = err_from_is_err_and c.from-residual.result c.from-residual.ensures.1 in
+pub returns-in_err-natural : goal.returns-in_err-natural
+returns-in_err-natural c =
+    let a = c.in_err-natural.ensures in
+    let e = MatchOption-at_some _ _ _ c.in-Some.is (strip_prefix_is Decides-eqb c.args.field.now (45 ∷ []) c.strip_prefix.result c.strip_prefix.ensures.cases) in
+    let p = err_from_is_err_and c.from_residual.result c.from_residual.ensures.1 in
     rw (p.1, p.2) (a.0, bare_minus c.args.field.now _ e a.1)
 
-pub returns-in-err-natural-2 : goal.returns-in-err-natural-2
-returns-in-err-natural-2 c =
-    let a = c.in-err-natural-2.ensures in
-    let e = MatchOption-at_none _ _ c.in-None.is (strip_prefix_is Decides-eqb c.args.field.now (45 ∷ []) c.strip-prefix.result c.strip-prefix.ensures.cases) in
-    let p = err_from_is_err_and c.from-residual-in-err-natural-2.result c.from-residual-in-err-natural-2.ensures.1 in
+pub returns-in_err-natural-2 : goal.returns-in_err-natural-2
+returns-in_err-natural-2 c =
+    let a = c.in_err-natural-2.ensures in
+    let e = MatchOption-at_none _ _ c.in-None.is (strip_prefix_is Decides-eqb c.args.field.now (45 ∷ []) c.strip_prefix.result c.strip_prefix.ensures.cases) in
+    let p = err_from_is_err_and c.from_residual-in_err-natural-2.result c.from_residual-in_err-natural-2.ensures.1 in
     rw (p.1, p.2) (a.0, no_number c.args.field.now e a.1)
 
-pub returns-in-ok-natural : goal.returns-in-ok-natural
-returns-in-ok-natural c =
-    let a = c.in-ok-natural.ensures in
-    let e = MatchOption-at_some _ _ _ c.in-Some.is (strip_prefix_is Decides-eqb c.args.field.now (45 ∷ []) c.strip-prefix.result c.strip-prefix.ensures.cases) in
+pub returns-in_ok-natural : goal.returns-in_ok-natural
+returns-in_ok-natural c =
+    let a = c.in_ok-natural.ensures in
+    let e = MatchOption-at_some _ _ _ c.in-Some.is (strip_prefix_is Decides-eqb c.args.field.now (45 ∷ []) c.strip_prefix.result c.strip_prefix.ensures.cases) in
     (_, inr (_, e, a.0, refl), held_negative _ _ _ c.from.ensures a.1)
 
-pub returns-in-ok-natural-2 : goal.returns-in-ok-natural-2
-returns-in-ok-natural-2 c =
-    let a = c.in-ok-natural-2.ensures in
+pub returns-in_ok-natural-2 : goal.returns-in_ok-natural-2
+returns-in_ok-natural-2 c =
+    let a = c.in_ok-natural-2.ensures in
     (_, inl (a.0, refl), held _ _ _ c.from-in-None.ensures a.1)

@@ -9,36 +9,36 @@ use Rattle.job_texts.specs.Jobs.{Passed}
 use Rattle.job_texts.proofs.Passing.{line_ok, line_err, line_shortens, passed_more, empty_text}
 use Rattle.job_texts.proofs.read.matrix_lines.Goals as goal
 
-pub returns-in-err-m : goal.returns-in-err-m
-returns-in-err-m c =
-    let p = err_from_is_err_and c.from-residual.result c.from-residual.ensures.1 in
-    let e = line_err _ c.matrix-line.result _ (sym c.on-line.ensures ∙ c.in-err-m.was) in
-    let f = MatchResult-at_err _ _ _ e.0 c.matrix-line.ensures in
+pub returns-in_err-m : goal.returns-in_err-m
+returns-in_err-m c =
+    let p = err_from_is_err_and c.from_residual.result c.from_residual.ensures.1 in
+    let e = line_err _ c.matrix_line.result _ (sym c.on_line.ensures ∙ c.in_err-m.was) in
+    let f = MatchResult-at_err _ _ _ e.0 c.matrix_line.ensures in
     let n = c.len-before.ensures ∙ c.loop-rest.list.ok.0 ∙ sym (length-map (vec_items c.loop-rest.list) entries) in
     rw (p.1, p.2) (
       _,
       _,
       c.loop-rest.invariant.0,
       λ h. false-eqb _ 0 c.loop-rest-test.ensures (ap length h),
-      subst (λ k. MatrixFaulty k c.loop-rest.rest.now c.in-err-m.field-0.0.fault) n f,
+      subst (λ k. MatrixFaulty k c.loop-rest.rest.now c.in_err-m.field-0.0.fault) n f,
       e.1 ∙ ap (λ k. c.args.first + k) n,
     )
 
 pub loop-rest-smaller : goal.loop-rest-smaller
 loop-rest-smaller c =
-    let l = MatchResult-at_ok _ _ _ (line_ok _ c.matrix-line.result _ (sym c.on-line.ensures ∙ c.in-ok-m.was)) c.matrix-line.ensures in
+    let l = MatchResult-at_ok _ _ _ (line_ok _ c.matrix_line.result _ (sym c.on_line.ensures ∙ c.in_ok-m.was)) c.matrix_line.ensures in
     line_shortens _ _ _ _ l.keyed
 
 pub loop-rest-preserved : goal.loop-rest-preserved
 loop-rest-preserved c =
-    let l = MatchResult-at_ok _ _ _ (line_ok _ c.matrix-line.result _ (sym c.on-line.ensures ∙ c.in-ok-m.was)) c.matrix-line.ensures in
+    let l = MatchResult-at_ok _ _ _ (line_ok _ c.matrix_line.result _ (sym c.on_line.ensures ∙ c.in_ok-m.was)) c.matrix_line.ensures in
     let n = c.len-before.ensures ∙ c.loop-rest.list.ok.0 ∙ sym (length-map (vec_items c.loop-rest.list) entries) in
-    let items = pushed (c.in-ok-m.m ∷ []) refl c.in-ok-push.was c.push.ensures.items in
-    let ms = ap (map entries) items ∙ map-append entries (vec_items c.loop-rest.list) (c.in-ok-m.m ∷ []) in (
-      subst (λ xs. Passed 0 c.args.text.now xs c.in-ok-m.past.now) (sym ms)
+    let items = pushed (c.in_ok-m.m ∷ []) refl c.in_ok-push.was c.push.ensures.items in
+    let ms = ap (map entries) items ∙ map-append entries (vec_items c.loop-rest.list) (c.in_ok-m.m ∷ []) in (
+      subst (λ xs. Passed 0 c.args.text.now xs c.in_ok-m.past.now) (sym ms)
           (passed_more 0 c.args.text.now _ c.loop-rest.rest.now _ _ c.loop-rest.invariant.0
-          (subst (λ k. MatrixLine k c.loop-rest.rest.now (entries c.in-ok-m.m) c.in-ok-m.past.now) (n ∙ sym (zero-add _)) l)),
-      omega (arith, c.in-ok-push.ensures.len, l.range.few, c.len-before.ensures),
+          (subst (λ k. MatrixLine k c.loop-rest.rest.now (entries c.in_ok-m.m) c.in_ok-m.past.now) (n ∙ sym (zero-add _)) l)),
+      omega (arith, c.in_ok-push.ensures.len, l.range.few, c.len-before.ensures),
     )
 
 pub returns : goal.returns

@@ -15,31 +15,31 @@ pub returns-then-text-gt-LONGEST : goal.returns-then-text-gt-LONGEST
 returns-then-text-gt-LONGEST c =
     let r : Result Job Error = Err (Refused (record { fault = Range; line = 0 })) in
     let h = too_long c.if-text-gt-LONGEST.true in
-    record { reads = h; accepts = gives c.args.text.now r h; first-fault = declines c.args.text.now r h }
+    record { reads = h; accepts = gives c.args.text.now r h; first_fault = declines c.args.text.now r h }
 
-pub returns-in-err-subject : goal.returns-in-err-subject
-returns-in-err-subject c =
+pub returns-in_err-subject : goal.returns-in_err-subject
+returns-in_err-subject c =
     let text = c.args.text.now in
-    let p = err_from_is_err_and c.from-residual.result c.from-residual.ensures.1 in
-    let e = line_err 1 c.kind-line.result _ (sym c.on-line.ensures ∙ c.in-err-subject.was) in
-    let f = MatchResult-at_err _ _ _ e.0 c.kind-line.ensures in
-    let g : FirstFault text _ c.in-err-subject.field-0.0.line = rw e.1 (in_kind _ c.if-text-gt-LONGEST.false f) in
-    let h : Reads text c.from-residual.result = rw (p.1, p.2) g in
-    record { reads = h; accepts = gives text c.from-residual.result h; first-fault = declines text c.from-residual.result h }
+    let p = err_from_is_err_and c.from_residual.result c.from_residual.ensures.1 in
+    let e = line_err 1 c.kind_line.result _ (sym c.on_line.ensures ∙ c.in_err-subject.was) in
+    let f = MatchResult-at_err _ _ _ e.0 c.kind_line.ensures in
+    let g : FirstFault text _ c.in_err-subject.field-0.0.line = rw e.1 (in_kind _ c.if-text-gt-LONGEST.false f) in
+    let h : Reads text c.from_residual.result = rw (p.1, p.2) g in
+    record { reads = h; accepts = gives text c.from_residual.result h; first_fault = declines text c.from_residual.result h }
 
 -- the first line says which lines come below it
 pub returns-in-Level : goal.returns-in-Level
 returns-in-Level c =
     let text = c.args.text.now in
-    let l = MatchResult-at_ok _ _ _ (line_ok 1 c.kind-line.result _ (sym c.on-line.ensures ∙ c.in-ok-subject.was)) c.kind-line.ensures in
-    let k = subst (λ s. KindLine text s c.in-ok-subject.rest.now) c.in-Level.is l in
-    let h = reads_rest _ text _ c.read-level.result c.if-text-gt-LONGEST.false k c.read-level.ensures in
-    record { reads = h; accepts = gives text c.read-level.result h; first-fault = declines text c.read-level.result h }
+    let l = MatchResult-at_ok _ _ _ (line_ok 1 c.kind_line.result _ (sym c.on_line.ensures ∙ c.in_ok-subject.was)) c.kind_line.ensures in
+    let k = subst (λ s. KindLine text s c.in_ok-subject.rest.now) c.in-Level.is l in
+    let h = reads_rest _ text _ c.read_level.result c.if-text-gt-LONGEST.false k c.read_level.ensures in
+    record { reads = h; accepts = gives text c.read_level.result h; first_fault = declines text c.read_level.result h }
 
 pub returns-in-Origami : goal.returns-in-Origami
 returns-in-Origami c =
     let text = c.args.text.now in
-    let l = MatchResult-at_ok _ _ _ (line_ok 1 c.kind-line.result _ (sym c.on-line.ensures ∙ c.in-ok-subject.was)) c.kind-line.ensures in
-    let k = subst (λ s. KindLine text s c.in-ok-subject.rest.now) c.in-Origami.is l in
-    let h = reads_rest _ text _ c.read-origami.result c.if-text-gt-LONGEST.false k c.read-origami.ensures in
-    record { reads = h; accepts = gives text c.read-origami.result h; first-fault = declines text c.read-origami.result h }
+    let l = MatchResult-at_ok _ _ _ (line_ok 1 c.kind_line.result _ (sym c.on_line.ensures ∙ c.in_ok-subject.was)) c.kind_line.ensures in
+    let k = subst (λ s. KindLine text s c.in_ok-subject.rest.now) c.in-Origami.is l in
+    let h = reads_rest _ text _ c.read_origami.result c.if-text-gt-LONGEST.false k c.read_origami.ensures in
+    record { reads = h; accepts = gives text c.read_origami.result h; first_fault = declines text c.read_origami.result h }

@@ -5,20 +5,20 @@ use Rattle.job_texts.specs.Jobs.{in_mirror}
 use Rattle.job_texts.proofs.Passing.{line_ok, line_err, tail_matrices}
 use Rattle.job_texts.proofs.read.tail.Goals as goal
 
-pub returns-in-err-mirror : goal.returns-in-err-mirror
-returns-in-err-mirror c =
-    let p = err_from_is_err_and c.from-residual.result c.from-residual.ensures.1 in
-    let e = line_err _ c.mirror-line.result _ (sym c.on-line.ensures ∙ c.in-err-mirror.was) in
-    let f = MatchResult-at_err _ _ _ e.0 c.mirror-line.ensures in
+pub returns-in_err-mirror : goal.returns-in_err-mirror
+returns-in_err-mirror c =
+    let p = err_from_is_err_and c.from_residual.result c.from_residual.ensures.1 in
+    let e = line_err _ c.mirror_line.result _ (sym c.on_line.ensures ∙ c.in_err-mirror.was) in
+    let f = MatchResult-at_err _ _ _ e.0 c.mirror_line.ensures in
     rw (p.1, p.2, e.1) (in_mirror _ f)
 
-pub returns-in-err-matrices : goal.returns-in-err-matrices
-returns-in-err-matrices c =
-    let p = err_from_is_err_and c.from-residual-in-err-matrices.result c.from-residual-in-err-matrices.ensures.1 in
-    let m = MatchResult-at_ok _ _ _ (line_ok _ c.mirror-line.result _ (sym c.on-line.ensures ∙ c.in-ok-mirror.was)) c.mirror-line.ensures in
-    rw (p.1, p.2) (tail_matrices _ _ _ _ m _ c.in-err-matrices.ensures)
+pub returns-in_err-matrices : goal.returns-in_err-matrices
+returns-in_err-matrices c =
+    let p = err_from_is_err_and c.from_residual-in_err-matrices.result c.from_residual-in_err-matrices.ensures.1 in
+    let m = MatchResult-at_ok _ _ _ (line_ok _ c.mirror_line.result _ (sym c.on_line.ensures ∙ c.in_ok-mirror.was)) c.mirror_line.ensures in
+    rw (p.1, p.2) (tail_matrices _ _ _ _ m _ c.in_err-matrices.ensures)
 
 pub returns : goal.returns
 returns c =
-    let m = MatchResult-at_ok _ _ _ (line_ok _ c.mirror-line.result _ (sym c.on-line.ensures ∙ c.in-ok-mirror.was)) c.mirror-line.ensures in
-    record { past = _; mirror = m; matrices = c.in-ok-matrices.ensures }
+    let m = MatchResult-at_ok _ _ _ (line_ok _ c.mirror_line.result _ (sym c.on_line.ensures ∙ c.in_ok-mirror.was)) c.mirror_line.ensures in
+    record { past = _; mirror = m; matrices = c.in_ok-matrices.ensures }

@@ -7,13 +7,13 @@ use Rattle.jobs.proofs.Cuts.{lacked, one_split}
 use Rattle.jobs.proofs.Fields.{spelt_lacks}
 use Rattle.jobs.proofs.lines.entry_then.Goals as goal
 
-pub returns-in-default : goal.returns-in-default
-returns-in-default c = (refl, λ z rest e. lacked 44 e.field rest (subst (Lacks 44) e.whole c.in-default.ensures))
+pub returns-in_default : goal.returns-in_default
+returns-in_default c = (refl, λ z rest e. lacked 44 e.field rest (subst (Lacks 44) e.whole c.in_default.ensures))
 
-pub returns-in-err-integer : goal.returns-in-err-integer
-returns-in-err-integer c =
-    let p = err_from_is_err_and c.from-residual.result c.from-residual.ensures.1 in
-    let a = c.in-err-integer.ensures in
+pub returns-in_err-integer : goal.returns-in_err-integer
+returns-in_err-integer c =
+    let p = err_from_is_err_and c.from_residual.result c.from_residual.ensures.1 in
+    let a = c.in_err-integer.ensures in
     let s = c.in-Some.ensures in
     rw (p.1, p.2) (
       a.0,
@@ -24,7 +24,7 @@ returns-in-err-integer c =
 
 pub returns : goal.returns
 returns c =
-    let a = c.in-ok-integer.ensures in
+    let a = c.in_ok-integer.ensures in
     let s = c.in-Some.ensures in
-    let f : SFits w64 c.in-ok-integer.field-0 = search rules in
+    let f : SFits w64 c.in_ok-integer.field-0 = search rules in
     (a.0, record { field = _; whole = s.whole; spells = a.1 }, simp (to_z-of_z f) a.2)

@@ -2,8 +2,8 @@
 use Rattle.jobs.specs.Line.{form, unread}
 use Rattle.jobs.proofs.lines.kind_line.Goals as goal
 
-pub returns-in-default : goal.returns-in-default
-returns-in-default c = form c.in-default.ensures
+pub returns-in_default : goal.returns-in_default
+returns-in_default c = form c.in_default.ensures
 
 pub returns-in-None : goal.returns-in-None
 returns-in-None c = unread _ _ c.in-Some.ensures c.in-None.ensures

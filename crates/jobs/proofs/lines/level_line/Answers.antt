@@ -5,18 +5,18 @@ use Rattle.std.proofs.lemmas.Result.{err_from_is_err_and}
 use Rattle.jobs.specs.Line.{form, unread, range}
 use Rattle.jobs.proofs.lines.level_line.Goals as goal
 
-pub returns-in-default : goal.returns-in-default
-returns-in-default c = form c.in-default.ensures
+pub returns-in_default : goal.returns-in_default
+returns-in_default c = form c.in_default.ensures
 
-pub returns-in-err-level : goal.returns-in-err-level
-returns-in-err-level c =
-    let p = err_from_is_err_and c.from-residual.result c.from-residual.ensures.1 in
-    let a = c.in-err-level.ensures in
+pub returns-in_err-level : goal.returns-in_err-level
+returns-in_err-level c =
+    let p = err_from_is_err_and c.from_residual.result c.from_residual.ensures.1 in
+    let a = c.in_err-level.ensures in
     rw (p.1, p.2, a.0) (unread _ _ c.in-Some.ensures (λ n s. a.1 s.0))
 
-pub returns-in-err-ranged : goal.returns-in-err-ranged
-returns-in-err-ranged c =
-    let p = err_from_is_err_and c.from-residual-in-err-ranged.result c.from-residual-in-err-ranged.ensures.1 in
-    let a = c.in-err-ranged.ensures in
-    let l = c.in-ok-level.ensures in
+pub returns-in_err-ranged : goal.returns-in_err-ranged
+returns-in_err-ranged c =
+    let p = err_from_is_err_and c.from_residual-in_err-ranged.result c.from_residual-in_err-ranged.ensures.1 in
+    let a = c.in_err-ranged.ensures in
+    let l = c.in_ok-level.ensures in
     rw (p.1, p.2, a.0) (range _ _ _ c.in-Some.ensures (l.0, refl) (λ h. a.1 (omega (arith, ints, c.from.ensures))))

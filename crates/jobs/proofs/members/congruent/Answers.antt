@@ -11,11 +11,11 @@ returns-then-n-eq0 c =
 
 pub returns : goal.returns
 returns c =
-    let f : SFits w64 c.rem-euclid.result = search rules in
-    let g : SFits w64 c.rem-euclid-2.result = search rules in
+    let f : SFits w64 c.rem_euclid.result = search rules in
+    let g : SFits w64 c.rem_euclid-2.result = search rules in
     let h : SFits w64 c.from-n.result = search rules in
-    let s = same_bits c.rem-euclid.result c.rem-euclid-2.result f g in
-    let p = simp (to_z-of_z c.ranges.x, to_z-of_z h) at c.rem-euclid.ensures.value in
-    let q = simp (to_z-of_z c.ranges.y, to_z-of_z h) at c.rem-euclid-2.ensures.value in
+    let s = same_bits c.rem_euclid.result c.rem_euclid-2.result f g in
+    let p = simp (to_z-of_z c.ranges.x, to_z-of_z h) at c.rem_euclid.ensures.value in
+    let q = simp (to_z-of_z c.ranges.y, to_z-of_z h) at c.rem_euclid-2.ensures.value in
     let z = same_remainders c.args.n c.args.x c.args.y c.from-n.result _ _ (omega arith) c.from-n.ensures p q in
     (λ t. z.0 (s.0 t), λ h. s.1 (z.1 h))

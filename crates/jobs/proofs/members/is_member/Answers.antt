@@ -12,7 +12,7 @@ returns-then-determinant-eq1 c =
     let j = c.args.job.now in
     let m = action_member (kind_of j.object) (level_of j.object) j.mirror (is_level j.object) (entries c.args.m) in
     let one : c.determinant.result ≡ pos 1 = omega (arith, ints) in
-    let d = c.in-group.ensures in
+    let d = c.in_group.ensures in
     (λ t. m.1 (sym c.determinant.ensures ∙ one, d.0 t), λ h. d.1 (m.0 h).1)
 
 pub returns-else-determinant-eq1 : goal.returns-else-determinant-eq1

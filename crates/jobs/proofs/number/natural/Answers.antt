@@ -13,4 +13,4 @@ loop-digit-preserved c =
 pub returns : goal.returns
 returns c =
     let all = take_all c.loop-digit.digit-index c.args.digits.now (omega arith) in
-    (record { some = omega (arith, false-eqb _ 0 c.if-is-empty.ensures); each = λ k h. c.loop-digit.invariant.1 k (omega arith) }, c.loop-digit.invariant.0 ∙ ap (λ l. min (value l) 1000000001) all)
+    (record { some = omega (arith, false-eqb _ 0 c.if-is_empty.ensures); each = λ k h. c.loop-digit.invariant.1 k (omega arith) }, c.loop-digit.invariant.0 ∙ ap (λ l. min (value l) 1000000001) all)

@@ -29,8 +29,8 @@ loop-refusal-preserved g c =
     let n = moment c.loop-refusal.table.counts c.loop-refusal.rows c.loop-refusal.links in
     let p = moment c.fill.new.self.counts c.fill.new.rows c.fill.new.links in (
       c.fill.ensures.action ∙ e,
-      filled_more (G.start a) (G.step_t a) (G.step_s a) (G.agrees a) (moment c.args.table.now.counts c.args.rows.now c.args.links.now) n p c.fill.result c.in-default.field-0
+      filled_more (G.start a) (G.step_t a) (G.step_s a) (G.agrees a) (moment c.args.table.now.counts c.args.rows.now c.args.links.now) n p c.fill.result c.in_default.field-0
           c.loop-refusal.invariant.1
-          (c.fill.ensures.answer ∙ ap (λ b. (filling (G.start b) (G.step_t b) (G.step_s b) (G.agrees b) n).answer) e) c.in-default.is
+          (c.fill.ensures.answer ∙ ap (λ b. (filling (G.start b) (G.step_t b) (G.step_s b) (G.agrees b) n).answer) e) c.in_default.is
           (c.fill.ensures.memory ∙ ap (λ b. (filling (G.start b) (G.step_t b) (G.step_s b) (G.agrees b) n).memory) e),
     )

@@ -4,4 +4,4 @@ use Rattle.listing.proofs.Words.{ok_from_cases}
 use Rattle.listing.proofs.lines.printed.Goals as goal
 
 pub unwrap-requires : goal.unwrap-requires
-unwrap-requires c = ok_from_cases c.from-utf8.result _ _ c.from-utf8.ensures.cases (λ e h. h.0 (IsUtf8-from_ascii _ c.requires))
+unwrap-requires c = ok_from_cases c.from_utf8.result _ _ c.from_utf8.ensures.cases (λ e h. h.0 (IsUtf8-from_ascii _ c.requires))

@@ -5,4 +5,4 @@ use Rattle.listing.proofs.parts.rows.Goals as goal
 
 pub loop-row-preserved : goal.loop-row-preserved
 loop-row-preserved c =
-    each_more (row_line c.args.table.now.links.now) c.loop-row.row _ _ _ c.loop-row.invariant c.in-ok-row-line.ensures
+    each_more (row_line c.args.table.now.links.now) c.loop-row.row _ _ _ c.loop-row.invariant c.in_ok-row_line.ensures

@@ -22,7 +22,7 @@ pub returns : goal.returns
 returns g c =
     let l = g.A.Action.laws c.args.action.now in
     record {
-      exactly = told l _ c.args.word.now _ _ c.first-first.ensures c.lead-from.ensures.value c.same.ensures;
+      exactly = told l _ c.args.word.now _ _ c.first-first.ensures c.lead_from.ensures.value c.same.ensures;
       identity = identity_member l;
       products = product_member l;
       inverses = inverse_member l;

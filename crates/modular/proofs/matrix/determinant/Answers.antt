@@ -18,16 +18,16 @@ parts c =
     let bc : c.wide-2.result ≡ entry m 0 1 *ℤ entry m 1 0 = simp (to_z-of_z fb, to_z-of_z fc) at c.wide-2.ensures in
     (ad, bc, omega (arith, ints, product_range _ _ fa fd, product_range _ _ fb fc))
 
-pub overflow-sub-result : goal.overflow-sub-result
-overflow-sub-result c =
-    let g : SFits w128 c.wide.result = record { sfits = c.wide.type-inv } in
-    let h : SFits w128 c.wide-2.result = record { sfits = c.wide-2.type-inv } in
+pub overflow_sub-result : goal.overflow_sub-result
+overflow_sub-result c =
+    let g : SFits w128 c.wide.result = record { sfits = c.wide.type_inv } in
+    let h : SFits w128 c.wide-2.result = record { sfits = c.wide-2.type_inv } in
     simp (to_z-of_z g, to_z-of_z h) (parts c).2
 
 pub returns : goal.returns
 returns c =
     let p = parts c in
     let f = p.2 in
-    let g : SFits w128 c.wide.result = record { sfits = c.wide.type-inv } in
-    let h : SFits w128 c.wide-2.result = record { sfits = c.wide-2.type-inv } in
+    let g : SFits w128 c.wide.result = record { sfits = c.wide.type_inv } in
+    let h : SFits w128 c.wide-2.result = record { sfits = c.wide-2.type_inv } in
     simp (to_z-of_z g, to_z-of_z h, to_z-of_z f) (ap (λ x. x -ℤ c.wide-2.result) p.0 ∙ ap (λ x. entry c.args.m 0 0 *ℤ entry c.args.m 1 1 -ℤ x) p.1)

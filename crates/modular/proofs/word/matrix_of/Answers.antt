@@ -16,14 +16,14 @@ next w i d m r h e f = (λ k. entries (e k) · entries (f k)) ∙ sym (matrix_sn
 up_to : (P : ℕ → Type 0) (i : ℕ) → ((k : ℕ) → k ≤ i → P k) → P (i + 1) → (k : ℕ) → k ≤ i + 1 → P k
 up_to P i below here k h = elim (dec_le k i) [ yes l ↦ below k l | no n ↦ let e : i + 1 ≡ k = omega arith in subst P e here ]
 
-pub returns-in-err-m : goal.returns-in-err-m
-returns-in-err-m c =
+pub returns-in_err-m : goal.returns-in_err-m
+returns-in_err-m c =
     let e = next c.args.word.now c.loop-letter.letter-index _ _ _ c.loop-letter-test.true c.loop-letter.invariant.0 c.matrix.ensures in
-    rw c.from-residual.ensures (λ held. c.in-err-m.ensures (subst Fits (sym e) (held (c.loop-letter.letter-index + 1) (omega arith))))
+    rw c.from_residual.ensures (λ held. c.in_err-m.ensures (subst Fits (sym e) (held (c.loop-letter.letter-index + 1) (omega arith))))
 
 pub loop-letter-preserved : goal.loop-letter-preserved
 loop-letter-preserved c =
-    let p = c.in-ok-m.ensures in
+    let p = c.in_ok-m.ensures in
     let e = next c.args.word.now c.loop-letter.letter-index _ _ _ c.loop-letter-test.true c.loop-letter.invariant.0 c.matrix.ensures in
     (p.1 ∙ ap rows e, up_to (λ k. Fits (matrix (take k c.args.word.now))) _ c.loop-letter.invariant.1 (subst Fits e p.0))
 

@@ -12,31 +12,31 @@ same_gluing : (xs ys : List ℕ) {rs us : List ℕ} → rs ≡ padded (length xs
     → ◌≡◌ {A = Gluing} (record { degree = length xs; right = rs; up = us }) (listed xs ys)
 same_gluing xs ys p q = λ i. record { degree = length xs; right = p i; up = q i }
 
-pub is-whole-requires : goal.is-whole-requires
-is-whole-requires c =
+pub is_whole-requires : goal.is_whole-requires
+is_whole-requires c =
     let xs = c.args.right.now in
     let ys = c.args.up.now in
-    let p = c.in-ok-listed-right.ensures in
-    let q = c.in-ok-permutation.ensures in
+    let p = c.in_ok-listed_right.ensures in
+    let q = c.in_ok-permutation.ensures in
     subst Inside (sym (same_gluing xs ys p.1 q.1)) (listed_inside xs ys p.0.0 p.0.1 q.0)
 
-pub returns-then-not-is-whole : goal.returns-then-not-is-whole
-returns-then-not-is-whole c =
+pub returns-then-not-is_whole : goal.returns-then-not-is_whole
+returns-then-not-is_whole c =
     let xs = c.args.right.now in
     let ys = c.args.up.now in
-    let p = c.in-ok-listed-right.ensures in
-    let q = c.in-ok-permutation.ensures in
+    let p = c.in_ok-listed_right.ensures in
+    let q = c.in_ok-permutation.ensures in
     let e = ap (λ g. length (order g 0)) (same_gluing xs ys p.1 q.1) in
-    (p.0.0, p.0.1, q.0, λ r. eqb-false _ (length xs) (sym c.is-whole.ensures ∙ c.if-not-is-whole.true) (e ∙ all_reached_whole xs ys p.0.0 p.0.1 q.0 r))
+    (p.0.0, p.0.1, q.0, λ r. eqb-false _ (length xs) (sym c.is_whole.ensures ∙ c.if-not-is_whole.true) (e ∙ all_reached_whole xs ys p.0.0 p.0.1 q.0 r))
 
 pub returns : goal.returns
 returns c =
     let xs = c.args.right.now in
     let ys = c.args.up.now in
-    let p = c.in-ok-listed-right.ensures in
-    let q = c.in-ok-permutation.ensures in
+    let p = c.in_ok-listed_right.ensures in
+    let q = c.in_ok-permutation.ensures in
     let same = same_gluing xs ys p.1 q.1 in
-    let whole = eqb-true _ (length xs) (sym c.is-whole.ensures ∙ c.if-not-is-whole.false) in (
+    let whole = eqb-true _ (length xs) (sym c.is_whole.ensures ∙ c.if-not-is_whole.false) in (
       record { fit = p.0.0; rights = p.0.1; ups = q.0; reached = whole_all_reached xs ys p.0.0 p.0.1 q.0 (ap (λ g. length (order g 0)) (sym same) ∙ whole) },
       same,
     )

@@ -15,11 +15,11 @@ use Rattle.table.proofs.cycle.t_steps.Goals as goal
 in_range : (links : List Link) (row w : ℕ) → length links ≤ 65000 → w ≡ width links row → (0 < w) × (w ≤ 65001)
 in_range links row w h e = let r = width_range links row in (omega arith, omega arith)
 
-pub overflow-cast-width : goal.overflow-cast-width
-overflow-cast-width c = let r = in_range c.args.links.now c.args.row _ c.requires c.width.ensures in omega (arith, ints)
+pub overflow_cast-width : goal.overflow_cast-width
+overflow_cast-width c = let r = in_range c.args.links.now c.args.row _ c.requires c.width.ensures in omega (arith, ints)
 
-pub rem-euclid-steps-requires : goal.rem-euclid-steps-requires
-rem-euclid-steps-requires c =
+pub rem_euclid-steps-requires : goal.rem_euclid-steps-requires
+rem_euclid-steps-requires c =
     let r = in_range c.args.links.now c.args.row _ c.requires c.width.ensures in
     record { nonzero = omega (arith, ints); no_overflow = λ e. absurd (omega (arith, ints)) }
 
@@ -33,6 +33,6 @@ pub returns : goal.returns
 returns c =
     let r = in_range c.args.links.now c.args.row _ c.requires c.width.ensures in
     let wide : to_z w64 c.width.result ≡ pos c.width.result = omega (arith, ints) in
-    let left = c.rem-euclid-steps.ensures.value ∙ (λ i. int_rem_euclid (to_z-of_z c.ranges.power i) (wide i)) ∙ residue_rem c.width.result c.args.power in
-    let all : c.loop.counter ≡ nat_abs c.rem-euclid-steps.result = omega (arith, ints) in
+    let left = c.rem_euclid-steps.ensures.value ∙ (λ i. int_rem_euclid (to_z-of_z c.ranges.power i) (wide i)) ∙ residue_rem c.width.result c.args.power in
+    let all : c.loop.counter ≡ nat_abs c.rem_euclid-steps.result = omega (arith, ints) in
     c.loop.invariant ∙ ap (λ n. times n (next c.args.links.now T) c.args.row) (all ∙ ap nat_abs left ∙ ap (λ w. residue w c.args.power) c.width.ensures)

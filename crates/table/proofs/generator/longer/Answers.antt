@@ -7,19 +7,19 @@ use Rattle.table.specs.Questions.{within}
 use Rattle.table.proofs.Limits.{within_fits}
 use Rattle.table.proofs.generator.longer.Goals as goal
 
-pub returns-in-err-product : goal.returns-in-err-product
-returns-in-err-product c =
+pub returns-in_err-product : goal.returns-in_err-product
+returns-in_err-product c =
     let e = ap (λ y. entries c.args.m · entries y) c.matrix.ensures in
-    rw c.from-residual.ensures (λ h. c.in-err-product.ensures (subst Fits (sym e) (within_fits c.args.limit (entries c.args.m · of_letter c.args.letter) c.requires h)))
+    rw c.from_residual.ensures (λ h. c.in_err-product.ensures (subst Fits (sym e) (within_fits c.args.limit (entries c.args.m · of_letter c.args.letter) c.requires h)))
 
-pub returns-then-is-within : goal.returns-then-is-within
-returns-then-is-within c =
+pub returns-then-is_within : goal.returns-then-is_within
+returns-then-is_within c =
     let e = ap (λ y. entries c.args.m · entries y) c.matrix.ensures in
-    let p = c.in-ok-product.ensures.1 ∙ ap rows e in
-    (sym (c.if-is-within.ensures ∙ ap (λ y. within c.args.limit (entries y)) p), p)
+    let p = c.in_ok-product.ensures.1 ∙ ap rows e in
+    (sym (c.if-is_within.ensures ∙ ap (λ y. within c.args.limit (entries y)) p), p)
 
-pub returns-else-is-within : goal.returns-else-is-within
-returns-else-is-within c =
+pub returns-else-is_within : goal.returns-else-is_within
+returns-else-is_within c =
     let e = ap (λ y. entries c.args.m · entries y) c.matrix.ensures in
-    let p = c.in-ok-product.ensures.1 ∙ ap rows e in
-    λ h. both_ways _ (sym (c.if-is-within.ensures ∙ ap (λ y. within c.args.limit (entries y)) p)) h
+    let p = c.in_ok-product.ensures.1 ∙ ap rows e in
+    λ h. both_ways _ (sym (c.if-is_within.ensures ∙ ap (λ y. within c.args.limit (entries y)) p)) h

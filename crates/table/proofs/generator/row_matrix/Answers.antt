@@ -19,6 +19,6 @@ read_back (S ∷ w) = ap (λ v. S ∷ v) (read_back w)
 pub returns : goal.returns
 returns c =
     let w = word_of c.args.links.now c.args.row in
-    let n : length (characters w) ≡ c.word-length-count.result - 0 = length-map w character ∙ sym c.word-length-count.ensures.value ∙ omega arith in
-    let e = ap letters (ap (take (c.word-length-count.result - 0)) c.write-word.ensures ∙ take_at (characters w) _ (c.word-length-count.result - 0) n) ∙ read_back w in
-    subst (λ v. SomeIff c.word-matrix.result (prefixes c.args.limit identity v ≡ true) (rows (matrix v))) e c.word-matrix.ensures
+    let n : length (characters w) ≡ c.word_length-count.result - 0 = length-map w character ∙ sym c.word_length-count.ensures.value ∙ omega arith in
+    let e = ap letters (ap (take (c.word_length-count.result - 0)) c.write_word.ensures ∙ take_at (characters w) _ (c.word_length-count.result - 0) n) ∙ read_back w in
+    subst (λ v. SomeIff c.word_matrix.result (prefixes c.args.limit identity v ≡ true) (rows (matrix v))) e c.word_matrix.ensures

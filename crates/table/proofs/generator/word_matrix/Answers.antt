@@ -28,17 +28,17 @@ read word i g l e = get_or-map written word i 0 T l ∙ sym e
 pub loop-c-init : goal.loop-c-init
 loop-c-init c = (refl, entries_within c.args.limit identity (record { a = omega (arith, c.requires.0); b = omega arith; c = omega arith; d = omega (arith, c.requires.0) }), refl)
 
-pub returns-in-err-m : goal.returns-in-err-m
-returns-in-err-m c =
+pub returns-in_err-m : goal.returns-in_err-m
+returns-in_err-m c =
     let word = c.args.word.now in
     let n = c.args.limit in
     let i = c.loop-c.c-index in
     let l : i < length (letters word) = omega (arith, length-map word written, c.loop-c-test.true) in
-    let e = read word i c.letter-of.result c.loop-c-test.true c.letter-of.ensures in
-    let x = ap (λ m. entries m · of_letter c.letter-of.result) c.loop-c.invariant.0 ∙ more_matrix n (letters word) i c.letter-of.result l e in
-    rw c.from-residual.ensures (λ h. elim (cases_Bool (within n (matrix (take (i + 1) (letters word))))) [
-      | inl t ↦ c.in-err-m.ensures (ap (within n) x ∙ t)
-      | inr f ↦ both_ways _ (c.loop-c.invariant.2 ∙ more_prefixes n (letters word) i c.letter-of.result l e c.loop-c.invariant.1 ∙ prefix_stop n (matrix (take (i + 1) (letters word))) (drop (i + 1) (letters word)) f) h
+    let e = read word i c.letter_of.result c.loop-c-test.true c.letter_of.ensures in
+    let x = ap (λ m. entries m · of_letter c.letter_of.result) c.loop-c.invariant.0 ∙ more_matrix n (letters word) i c.letter_of.result l e in
+    rw c.from_residual.ensures (λ h. elim (cases_Bool (within n (matrix (take (i + 1) (letters word))))) [
+      | inl t ↦ c.in_err-m.ensures (ap (within n) x ∙ t)
+      | inr f ↦ both_ways _ (c.loop-c.invariant.2 ∙ more_prefixes n (letters word) i c.letter_of.result l e c.loop-c.invariant.1 ∙ prefix_stop n (matrix (take (i + 1) (letters word))) (drop (i + 1) (letters word)) f) h
     ])
 
 pub loop-c-preserved : goal.loop-c-preserved
@@ -47,11 +47,11 @@ loop-c-preserved c =
     let n = c.args.limit in
     let i = c.loop-c.c-index in
     let l : i < length (letters word) = omega (arith, length-map word written, c.loop-c-test.true) in
-    let e = read word i c.letter-of.result c.loop-c-test.true c.letter-of.ensures in
-    let x = ap (λ m. entries m · of_letter c.letter-of.result) c.loop-c.invariant.0 ∙ more_matrix n (letters word) i c.letter-of.result l e in (
-      c.in-ok-m.ensures.1 ∙ ap rows x,
-      sym (ap (within n) x) ∙ c.in-ok-m.ensures.0,
-      c.loop-c.invariant.2 ∙ more_prefixes n (letters word) i c.letter-of.result l e c.loop-c.invariant.1,
+    let e = read word i c.letter_of.result c.loop-c-test.true c.letter_of.ensures in
+    let x = ap (λ m. entries m · of_letter c.letter_of.result) c.loop-c.invariant.0 ∙ more_matrix n (letters word) i c.letter_of.result l e in (
+      c.in_ok-m.ensures.1 ∙ ap rows x,
+      sym (ap (within n) x) ∙ c.in_ok-m.ensures.0,
+      c.loop-c.invariant.2 ∙ more_prefixes n (letters word) i c.letter_of.result l e c.loop-c.invariant.1,
     )
 
 pub returns : goal.returns

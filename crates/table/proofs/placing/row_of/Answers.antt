@@ -52,15 +52,15 @@ divided c =
     let g : SFits w64 r = search rules in
     record { quotient = u; q-fits = f; r-fits = g; small = left_small 1000000000 x q r (omega arith) h c.loop-q.invariant.1 u.whole u.small }
 
-pub overflow-mul-m : goal.overflow-mul-m
-overflow-mul-m c =
+pub overflow_mul-m : goal.overflow_mul-m
+overflow_mul-m c =
     let x = entries c.loop-q.m in
     let v = divided c in
     let h = c.loop-q.invariant.0 in
     simp (to_z-of_z v.q-fits, to_z-of_z (small_fits x.d h.d)) (product_fits (c.in-Some.q *ℤ x.d) x.b h.b v.small.d)
 
-pub overflow-sub-m-in-Some : goal.overflow-sub-m-in-Some
-overflow-sub-m-in-Some c =
+pub overflow_sub-m-in-Some : goal.overflow_sub-m-in-Some
+overflow_sub-m-in-Some c =
     let x = entries c.loop-q.m in
     let v = divided c in
     let h = c.loop-q.invariant.0 in

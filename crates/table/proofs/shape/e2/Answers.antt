@@ -10,8 +10,8 @@ use Rattle.table.proofs.shape.e2.Goals.{then-next-row, else-next-row}
 abbrev fixed : List Link → ℕ → Bool
 fixed links r = eqb (next links S r) r
 
-pub overflow-add-count : goal.overflow-add-count
-overflow-add-count c = omega (arith, counted_most (fixed c.args.links.now) c.loop-row.row, c.loop-row.invariant)
+pub overflow_add-count : goal.overflow_add-count
+overflow_add-count c = omega (arith, counted_most (fixed c.args.links.now) c.loop-row.row, c.loop-row.invariant)
 
 pub loop-row-preserved : goal.loop-row-preserved
 loop-row-preserved c =

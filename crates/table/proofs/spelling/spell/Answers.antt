@@ -10,15 +10,15 @@ pub returns-then-count-out : goal.returns-then-count-out
 returns-then-count-out c =
     let w = word_of c.args.links.now c.args.row in
     let n = length-map w character in
-    let e = spell_short c.args.links.now c.args.row c.args.out.now (omega (arith, c.from.ensures, c.if-from-links.false)) (omega (arith, n, c.word-length-count.ensures.value, c.if-count-out.true)) in
+    let e = spell_short c.args.links.now c.args.row c.args.out.now (omega (arith, c.from.ensures, c.if-from-links.false)) (omega (arith, n, c.word_length-count.ensures.value, c.if-count-out.true)) in
     record { answer = sym (ap (λ x. x.answer) e); out = sym (ap (λ x. x.out) e) }
 
 pub returns : goal.returns
 returns c =
     let w = word_of c.args.links.now c.args.row in
-    let n : length (characters w) ≡ c.word-length-count.result = length-map w character ∙ sym c.word-length-count.ensures.value in
+    let n : length (characters w) ≡ c.word_length-count.result = length-map w character ∙ sym c.word_length-count.ensures.value in
     let e = spell_room c.args.links.now c.args.row c.args.out.now (omega (arith, c.from.ensures, c.if-from-links.false)) (omega (arith, n, c.if-count-out.false)) in
     record {
       answer = ap Ok (sym n) ∙ sym (ap (λ x. x.answer) e);
-      out = c.write-word.ensures ∙ ap (λ k. characters w ++ drop k c.args.out.now) (sym n) ∙ sym (ap (λ x. x.out) e);
+      out = c.write_word.ensures ∙ ap (λ k. characters w ++ drop k c.args.out.now) (sym n) ∙ sym (ap (λ x. x.out) e);
     }

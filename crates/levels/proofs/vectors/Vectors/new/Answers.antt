@@ -3,6 +3,6 @@ use Rattle.levels.proofs.vectors.Vectors.new.Goals as goal
 
 pub returns : goal.returns
 returns c =
-    let l = c.in-ok-new.field-0 in
-    let e = c.in-ok-new.ensures in
+    let l = c.in_ok-new.field-0 in
+    let e = c.in_ok-new.ensures in
     (e, rw (← e) (vectors_at l.n l.ok))

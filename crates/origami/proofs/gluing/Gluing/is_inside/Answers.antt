@@ -10,17 +10,17 @@ returns-then-self-eq0 c = let g = c.args.self in elim c.then-self-eq0.either [
   | inr p ↦ record { value = many_inside g p.1; facts = λ x. absurd x }
 ]
 
-pub returns-then-not-has-neighbours : goal.returns-then-not-has-neighbours
-returns-then-not-has-neighbours c =
+pub returns-then-not-has_neighbours : goal.returns-then-not-has_neighbours
+returns-then-not-has_neighbours c =
     let g = c.args.self in
     let k = c.loop-square.square in
-    record { value = unmet_inside g k (omega arith) (sym c.has-neighbours.ensures ∙ c.if-not-has-neighbours.true); facts = λ x. absurd x }
+    record { value = unmet_inside g k (omega arith) (sym c.has_neighbours.ensures ∙ c.if-not-has_neighbours.true); facts = λ x. absurd x }
 
 pub loop-square-preserved : goal.loop-square-preserved
 loop-square-preserved c =
     let g = c.args.self in
     let k = c.loop-square.square in
-    let both = and_from (inside_below g k) (met g k) c.loop-square.invariant (sym c.has-neighbours.ensures ∙ c.if-not-has-neighbours.false) in
+    let both = and_from (inside_below g k) (met g k) c.loop-square.invariant (sym c.has_neighbours.ensures ∙ c.if-not-has_neighbours.false) in
     rw add-one both
 
 pub returns : goal.returns

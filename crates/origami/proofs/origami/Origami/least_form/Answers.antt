@@ -14,7 +14,7 @@ returns c =
     let e = sym c.least.ensures in
     record {
       value = c.least.ensures;
-      is-least = subst (IsLeast g) e (least_is g h.some);
+      is_least = subst (IsLeast g) e (least_is g h.some);
       renumbered = subst (Renumbered g) e (least_renumbered g h);
       point = subst IsPoint e (least_point g h);
     }

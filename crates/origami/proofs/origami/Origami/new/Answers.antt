@@ -13,12 +13,12 @@ accepted_glues xs ys g p = subst Glues (sym p.1) (listed_glues xs ys p.0.fit p.0
 
 pub invariant-of-result : goal.invariant-of-result
 invariant-of-result c =
-    let g = c.in-ok-listed.field-0 in
-    let h = accepted_glues c.args.right.now c.args.up.now g c.in-ok-listed.ensures in
+    let g = c.in_ok-listed.field-0 in
+    let h = accepted_glues c.args.right.now c.args.up.now g c.in_ok-listed.ensures in
     ((h.some, h.few), (permutes_undone g.degree (right_of g) h.rights, (permutes_undone g.degree (up_of g) h.ups, (glued_whole g h 0 h.some, tt))))
 
 pub returns : goal.returns
 returns c =
-    let g = c.in-ok-listed.field-0 in
-    let p = c.in-ok-listed.ensures in
+    let g = c.in_ok-listed.field-0 in
+    let p = c.in_ok-listed.ensures in
     record { accepted = p.0; as_listed = p.1; veech = veech_group g (accepted_glues c.args.right.now c.args.up.now g p) }

@@ -13,18 +13,18 @@ pub returns-then-not-storable : goal.returns-then-not-storable
 returns-then-not-storable g c =
     let links = c.args.links.now in
     let few = sym c.storable.ensures ∙ c.if-not-storable.true in
-    record { answer = (Memory, ap (λ b. store_by b (sound links) links) few, c.from.ensures); every-list = every_stored_list; law = sound_links_law; test = sound_tells }
+    record { answer = (Memory, ap (λ b. store_by b (sound links) links) few, c.from.ensures); every_list = every_stored_list; law = sound_links_law; test = sound_tells }
 
-pub returns-then-not-is-sound : goal.returns-then-not-is-sound
-returns-then-not-is-sound g c =
+pub returns-then-not-is_sound : goal.returns-then-not-is_sound
+returns-then-not-is_sound g c =
     let links = c.args.links.now in
     let few = sym c.storable.ensures ∙ c.if-not-storable.false in
-    let good = sym c.is-sound.ensures ∙ c.if-not-is-sound.true in
-    record { answer = (Unsound, (λ i. store_by (few i) (good i) links), c.from-then-not-is-sound.ensures); every-list = every_stored_list; law = sound_links_law; test = sound_tells }
+    let good = sym c.is_sound.ensures ∙ c.if-not-is_sound.true in
+    record { answer = (Unsound, (λ i. store_by (few i) (good i) links), c.from-then-not-is_sound.ensures); every_list = every_stored_list; law = sound_links_law; test = sound_tells }
 
 pub returns : goal.returns
 returns g c =
     let links = c.args.links.now in
     let few = sym c.storable.ensures ∙ c.if-not-storable.false in
-    let good = sym c.is-sound.ensures ∙ c.if-not-is-sound.false in
-    record { answer = (λ i. store_by (few i) (good i) links) ∙ ap Ok (sym c.of.ensures); every-list = every_stored_list; law = sound_links_law; test = sound_tells }
+    let good = sym c.is_sound.ensures ∙ c.if-not-is_sound.false in
+    record { answer = (λ i. store_by (few i) (good i) links) ∙ ap Ok (sym c.of.ensures); every_list = every_stored_list; law = sound_links_law; test = sound_tells }

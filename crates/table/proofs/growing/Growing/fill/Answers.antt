@@ -16,10 +16,10 @@ returns-then-found-held g c =
     let row : next_row m < length c.args.rows.now = omega (arith, c.args.self.now.fit.0, c.args.self.now.fit.1) in
     let link : next_row m < length c.args.links.now = omega (arith, c.args.self.now.fit.0, c.args.self.now.fit.1) in
     let p = c.index-rows-row.is ∙ get_or_default c.args.rows.now (next_row m) _ start row in
-    let e = made_is start t s agrees m _ _ _ c.letter-at-letter.ensures p c.step-made.ensures in
+    let e = made_is start t s agrees m _ _ _ c.letter_at-letter.ensures p c.step-made.ensures in
     let f = found_is start t s agrees m _ c.sought-found.result (c.args.self.now.counts.held - 0) e (omega arith) c.sought-found.ensures in
     let h : Ready start t s agrees m = record { rows = c.if-rows-size.false; links = c.if-links-size.false; left = c.if-filled-held.false } in
-    let l = aimed_is c.args.links.now (next_row m) (next_row m) _ c.sought-found.result _ _ _ _ refl link refl c.letter-at-letter.ensures c.aimed.ensures in
+    let l = aimed_is c.args.links.now (next_row m) (next_row m) _ c.sought-found.result _ _ _ _ refl link refl c.letter_at-letter.ensures c.aimed.ensures in
     record {
       answer = old_answer start t s agrees m h c.sought-found.result f c.if-found-held.true;
       memory = old_memory start t s agrees m h c.sought-found.result f c.if-found-held.true c.aimed.result l;
@@ -36,7 +36,7 @@ returns-then-held-size g c =
     let m = moment c.args.self.now.counts c.args.rows.now c.args.links.now in
     let row : next_row m < length c.args.rows.now = omega (arith, c.args.self.now.fit.0, c.args.self.now.fit.1) in
     let p = c.index-rows-row.is ∙ get_or_default c.args.rows.now (next_row m) _ start row in
-    let e = made_is start t s agrees m _ _ _ c.letter-at-letter.ensures p c.step-made.ensures in
+    let e = made_is start t s agrees m _ _ _ c.letter_at-letter.ensures p c.step-made.ensures in
     let f = found_is start t s agrees m _ c.sought-found.result (c.args.self.now.counts.held - 0) e (omega arith) c.sought-found.ensures in
     let h : Ready start t s agrees m = record { rows = c.if-rows-size.false; links = c.if-links-size.false; left = c.if-filled-held.false } in
     let q = fill_full start t s agrees m h (omega (arith, f, c.if-found-held.false)) c.if-held-size.true in

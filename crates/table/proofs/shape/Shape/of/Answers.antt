@@ -19,26 +19,26 @@ few c =
       at_most (λ r. eqb (next links T (next links S r)) r) (length links) _ c.requires c.e3-e3.ensures,
     )
 
-pub overflow-mul-genus12 : goal.overflow-mul-genus12
-overflow-mul-genus12 c = let h = few c in omega arith
+pub overflow_mul-genus12 : goal.overflow_mul-genus12
+overflow_mul-genus12 c = let h = few c in omega arith
 
-pub overflow-mul-genus12-2 : goal.overflow-mul-genus12-2
-overflow-mul-genus12-2 c = let h = few c in omega arith
+pub overflow_mul-genus12-2 : goal.overflow_mul-genus12-2
+overflow_mul-genus12-2 c = let h = few c in omega arith
 
-pub overflow-add-genus12-2 : goal.overflow-add-genus12-2
-overflow-add-genus12-2 c = let h = few c in omega arith
+pub overflow_add-genus12-2 : goal.overflow_add-genus12-2
+overflow_add-genus12-2 c = let h = few c in omega arith
 
-pub overflow-mul-genus12-3 : goal.overflow-mul-genus12-3
-overflow-mul-genus12-3 c = let h = few c in omega arith
+pub overflow_mul-genus12-3 : goal.overflow_mul-genus12-3
+overflow_mul-genus12-3 c = let h = few c in omega arith
 
-pub overflow-add-genus12-3 : goal.overflow-add-genus12-3
-overflow-add-genus12-3 c = let h = few c in omega arith
+pub overflow_add-genus12-3 : goal.overflow_add-genus12-3
+overflow_add-genus12-3 c = let h = few c in omega arith
 
-pub overflow-cast-genus12-2 : goal.overflow-cast-genus12-2
-overflow-cast-genus12-2 c = let h = few c in omega (arith, ints)
+pub overflow_cast-genus12-2 : goal.overflow_cast-genus12-2
+overflow_cast-genus12-2 c = let h = few c in omega (arith, ints)
 
-pub overflow-sub-genus12 : goal.overflow-sub-genus12
-overflow-sub-genus12 c = let h = few c in omega (arith, ints)
+pub overflow_sub-genus12 : goal.overflow_sub-genus12
+overflow_sub-genus12 c = let h = few c in omega (arith, ints)
 
 pub returns : goal.returns
 returns c =
