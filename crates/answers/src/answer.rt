@@ -24,7 +24,7 @@ fn seen<A: Action + Drop>(
     mirror: bool,
     matrices: &[Matrix],
 ) -> Result<String, Error>
-    ensures { GrownOr (start action) (seen_t mirror (step_t action) (step_s action)) (seen_s mirror (step_t action) (step_s action)) 1200 (map entries matrices.now) result }
+    ensures { GrownOr (A.start action) (seen_t mirror (A.step_t action) (A.step_s action)) (seen_s mirror (A.step_t action) (A.step_s action)) 1200 (map entries matrices.now) result }
 {
     if mirror {
         list(heap, Mirror::new(action), ROOM, matrices)

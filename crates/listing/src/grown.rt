@@ -16,8 +16,8 @@ use table::refusal::Refusal;
 
 // Fills edges until a fill is declined, and answers why it was.
 fn fill_on<A: Action>(table: &mut Growing<A>, rows: &mut [A::Record], links: &mut [Link]) -> Refusal
-    ensures way { FilledOn (start table.old.action) (step_t table.old.action) (step_s table.old.action) (agrees table.old.action) (moment table.old.counts rows.old links.old) (moment table.new.counts rows.new links.new) }
-    ensures end { (filling (start table.old.action) (step_t table.old.action) (step_s table.old.action) (agrees table.old.action) (moment table.new.counts rows.new links.new)).answer ≡ Err result }
+    ensures way { FilledOn (A.start table.old.action) (A.step_t table.old.action) (A.step_s table.old.action) (A.agrees table.old.action) (moment table.old.counts rows.old links.old) (moment table.new.counts rows.new links.new) }
+    ensures end { (filling (A.start table.old.action) (A.step_t table.old.action) (A.step_s table.old.action) (A.agrees table.old.action) (moment table.new.counts rows.new links.new)).answer ≡ Err result }
     ensures action { table.new.action ≡ table.old.action }
 {
     loop {
@@ -46,7 +46,7 @@ fn finish<A: Action + Drop>(
     links: &mut [Link],
     matrices: &[Matrix],
 ) -> Result<String, Error>
-    ensures { Finishes (start table.action) (step_t table.action) (step_s table.action) (agrees table.action) (moment table.counts rows.old links.old) (map entries matrices.now) result }
+    ensures { Finishes (A.start table.action) (A.step_t table.action) (A.step_s table.action) (A.agrees table.action) (moment table.counts rows.old links.old) (map entries matrices.now) result }
 {
     let ended = fill_on(&mut table, rows, links);
     let Ok(finished) = table.close(rows, links) else {
@@ -63,7 +63,7 @@ fn grow<A: Action + Drop>(
     links: &mut [Link],
     matrices: &[Matrix],
 ) -> Result<String, Error>
-    ensures { GrownIn (start action) (step_t action) (step_s action) (length rows.old) (length links.old) (map entries matrices.now) result }
+    ensures { GrownIn (A.start action) (A.step_t action) (A.step_s action) (length rows.old) (length links.old) (map entries matrices.now) result }
 {
     match Growing::open(action, rows, links) {
         Ok(table) => finish(heap, table, rows, links, matrices),
@@ -78,7 +78,7 @@ pub fn list<A: Action + Drop>(
     room: usize,
     matrices: &[Matrix],
 ) -> Result<String, Error>
-    ensures { GrownOr (start action) (step_t action) (step_s action) room (map entries matrices.now) result }
+    ensures { GrownOr (A.start action) (A.step_t action) (A.step_s action) room (map entries matrices.now) result }
 {
     let mut rows = alike(heap, action.first(), room)?;
     let mut links = alike(heap, Link::empty(0, Letter::T), room)?;

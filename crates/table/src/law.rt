@@ -9,8 +9,8 @@ use modular::action::Action;
 // The first row of every table over an action. What the calls of a table are defined to do keeps the law over all runs: after
 // open and after each call, of any sequence, accepted or declined.
 pub fn first_row<A: Action>(action: &A) -> A::Record
-    ensures first { result ≡ start action.now }
-    ensures every_run { EveryRunFromOpen (start action.now) (step_t action.now) (step_s action.now) (agrees action.now) }
+    ensures first { result ≡ A.start action.now }
+    ensures every_run { EveryRunFromOpen (A.start action.now) (A.step_t action.now) (A.step_s action.now) (A.agrees action.now) }
 {
     action.first()
 }

@@ -31,11 +31,11 @@ impl<A: Action> Growing<A> {
         rows: &mut [A::Record],
         links: &mut [Link],
     ) -> Result<Growing<A>, (A, Refusal)>
-        ensures answer { MatchResult result (λ g. (opened (start action) rows.old links.old).answer ≡ Ok g.counts) (λ p. (opened (start action) rows.old links.old).answer ≡ Err p.1) }
+        ensures answer { MatchResult result (λ g. (opened (A.start action) rows.old links.old).answer ≡ Ok g.counts) (λ p. (opened (A.start action) rows.old links.old).answer ≡ Err p.1) }
         ensures action { MatchResult result (λ g. g.action ≡ action) (λ p. p.0 ≡ action) }
-        ensures rows { rows.new ≡ (opened (start action) rows.old links.old).rows }
-        ensures links { links.new ≡ (opened (start action) rows.old links.old).links }
-        ensures every_run { EveryRunFromOpen (start action) (step_t action) (step_s action) (agrees action) }
+        ensures rows { rows.new ≡ (opened (A.start action) rows.old links.old).rows }
+        ensures links { links.new ≡ (opened (A.start action) rows.old links.old).links }
+        ensures every_run { EveryRunFromOpen (A.start action) (A.step_t action) (A.step_s action) (A.agrees action) }
     {
         if !lendable(rows.len(), links.len()) {
             return Err((action, Refusal::Memory));
@@ -53,8 +53,8 @@ impl<A: Action> Growing<A> {
     // Fills the lowest edge that is not filled yet: steps the record of its row, and seeks what that makes among the rows
     // held. What is not among them becomes the next row.
     pub fn fill(&mut self, rows: &mut [A::Record], links: &mut [Link]) -> Result<Filled, Refusal>
-        ensures answer { result ≡ (filling (start self.old.action) (step_t self.old.action) (step_s self.old.action) (agrees self.old.action) (moment self.old.counts rows.old links.old)).answer }
-        ensures memory { moment self.new.counts rows.new links.new ≡ (filling (start self.old.action) (step_t self.old.action) (step_s self.old.action) (agrees self.old.action) (moment self.old.counts rows.old links.old)).memory }
+        ensures answer { result ≡ (filling (A.start self.old.action) (A.step_t self.old.action) (A.step_s self.old.action) (A.agrees self.old.action) (moment self.old.counts rows.old links.old)).answer }
+        ensures memory { moment self.new.counts rows.new links.new ≡ (filling (A.start self.old.action) (A.step_t self.old.action) (A.step_s self.old.action) (A.agrees self.old.action) (moment self.old.counts rows.old links.old)).memory }
         ensures action { self.new.action ≡ self.old.action }
     {
         let Counts { size, held, filled } = self.counts;

@@ -35,7 +35,7 @@ loop-i-preserved c =
     let xs = order g x in
     let i = c.loop-i.i in
     let l : i < 16 = omega arith in
-    let e = c.new-n.ensures.order-is i l in (
+    let e = c.new-n.ensures.order_is i l in (
       filled_more (renumbered (right_of g) x xs) i c.loop-i.right c.of.result l
           (c.of.ensures x xs c.new-n.ensures ∙ ap (λ y. place (right_of g y) xs) e) c.loop-i.invariant.0,
       filled_more (renumbered (up_of g) x xs) i c.loop-i.up c.of-in-loop-i.result l

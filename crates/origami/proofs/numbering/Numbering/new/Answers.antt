@@ -18,7 +18,7 @@ pub add-requires : goal.add-requires
 add-requires c =
     let i = c.loop-i.i in
     let l : i < 16 = omega arith in
-    room_right c.args.g c.requires.0 c.args.first c.requires.1 i (get_or c.loop-i.n.order i 0) (c.loop-i.invariant.order-is i l) c.loop-i.n c.loop-i.invariant
+    room_right c.args.g c.requires.0 c.args.first c.requires.1 i (get_or c.loop-i.n.order i 0) (c.loop-i.invariant.order_is i l) c.loop-i.n c.loop-i.invariant
 
 pub bounds-g-square-in-loop-i : goal.bounds-g-square-in-loop-i
 bounds-g-square-in-loop-i c =
@@ -32,7 +32,7 @@ add-requires-in-loop-i c =
     let x = c.args.first in
     let i = c.loop-i.i in
     let l : i < 16 = omega arith in
-    room_up g c.requires.0 x c.requires.1 i (get_or c.loop-i.n.order i 0) (c.loop-i.invariant.order-is i l) c.add.new.self
+    room_up g c.requires.0 x c.requires.1 i (get_or c.loop-i.n.order i 0) (c.loop-i.invariant.order_is i l) c.add.new.self
     (c.add.ensures x (squares g x i) c.loop-i.invariant)
 
 pub loop-i-preserved : goal.loop-i-preserved
@@ -41,5 +41,5 @@ loop-i-preserved c =
     let x = c.args.first in
     let i = c.loop-i.i in
     let l : i < 16 = omega arith in
-    visit g c.requires.0 x c.requires.1 i (get_or c.loop-i.n.order i 0) (c.loop-i.invariant.order-is i l) c.add-in-loop-i.new.self
+    visit g c.requires.0 x c.requires.1 i (get_or c.loop-i.n.order i 0) (c.loop-i.invariant.order_is i l) c.add-in-loop-i.new.self
     (c.add-in-loop-i.ensures x _ (c.add.ensures x (squares g x i) c.loop-i.invariant))
