@@ -1,19 +1,16 @@
 -- What `<` and `==` on the arrays of two gluings say of which is earlier.
 use Rattle.std.proofs.Common.{◌≡◌, ℕ, ◌<◌, Bool, true, false, ◌&&◌, ◌||◌, eqb, ltb, List, [], ◌∷◌, ◌++◌, length, IsSomeAnd, Decides, sym, refl, ap, ◌∙◌, arith, rules}
-use Rattle.std.specs.Cmp.Lexicographic.{LexSome, Matches}
-use Rattle.std.specs.Ordering.{MatchOrdering, Tested, is_lt, nat_cmp}
+use Rattle.std.specs.declared.option.Option.TheVariants.{Some}
+use Rattle.std.specs.Cmp.Lexicographic.{slice_partial_cmp}
+use Rattle.std.specs.Ordering.{is_lt, nat_cmp, partial_lt}
 use Rattle.std.specs.Str.{bytes_eq}
-use Rattle.std.proofs.lemmas.Slice.Eq.{slice_eq-Decides, bytes_eq-Decides}
 use Rattle.std.proofs.lemmas.Cmp.{same_from_slice_cmp_tested}
-use Rattle.std.proofs.lemmas.Bool.Decides.{nat_tests, Decides-eqb}
+use Rattle.std.proofs.lemmas.Bool.Decides.{nat_tests}
 use Rattle.origami.specs.declared.gluing.Gluing.{Gluing}
 use Rattle.origami.specs.Forms.{less, earlier}
 
-pub lt_is : (xs ys : List ℕ) (r : Bool) → Tested (LexSome (λ x y o. IsSomeAnd o (λ k. MatchOrdering k (x < y) (x ≡ y) (y < x))) xs ys) is_lt r → r ≡ less xs ys
+pub lt_is : (xs ys : List ℕ) (r : Bool) → r ≡ partial_lt (slice_partial_cmp (λ x y. Some (nat_cmp x y))) xs ys → r ≡ less xs ys
 lt_is = same_from_slice_cmp_tested nat_cmp is_lt less refl (λ _ _. refl) (λ _ _. refl) (λ x y xs ys o h. grind (arith, nat_tests))
-
-pub eq_is : (xs ys : List ℕ) (r : Bool) → Matches (λ (a b : ℕ) (t : Bool). Decides t (a ≡ b)) xs ys r → r ≡ bytes_eq xs ys
-eq_is xs ys r h = let d = slice_eq-Decides Decides-eqb xs ys r h in search (rules, bytes_eq-Decides)
 
 regroup : (a e l s m : Bool) → (a || (e && (l || (s && m)))) ≡ ((a || (e && l)) || ((e && s) && m))
 regroup true e l s m = refl

@@ -1,7 +1,7 @@
 use Rattle.std.proofs.Common.{◌≡◌, true, false, length, sym, refl, ◌∙◌, rules}
 use Rattle.std.specs.Str.{bytes_eq}
 use Rattle.origami.specs.Forms.{less}
-use Rattle.origami.proofs.Lexical.{lt_is, eq_is, earlier_is}
+use Rattle.origami.proofs.Lexical.{lt_is, earlier_is}
 use Rattle.origami.proofs.form.earlier.Goals as goal
 
 pub returns-then-lt : goal.returns-then-lt
@@ -18,7 +18,7 @@ returns-then-eq c =
     let b = c.args.b in
     let l : length a.right ≡ length b.right = search rules in
     let first = lt_is a.right b.right c.lt.result c.lt.ensures in
-    let same = eq_is a.right b.right c.eq.result c.eq.ensures in
+    let same = c.eq.ensures in
     earlier_is a b false true c.lt-then-eq.result l (sym c.if-lt.false ∙ first) (sym c.if-eq.true ∙ same)
     (lt_is a.up b.up c.lt-then-eq.result c.lt-then-eq.ensures)
 
@@ -28,5 +28,5 @@ returns-else-eq c =
     let b = c.args.b in
     let l : length a.right ≡ length b.right = search rules in
     let first = lt_is a.right b.right c.lt.result c.lt.ensures in
-    let same = eq_is a.right b.right c.eq.result c.eq.ensures in
+    let same = c.eq.ensures in
     c.if-eq.false ∙ earlier_is a b false false (less a.up b.up) l (sym c.if-lt.false ∙ first) (sym c.if-eq.false ∙ same) refl

@@ -11,11 +11,16 @@ use Rattle.origami.proofs.origami.Origami.new.Goals as goal
 accepted_glues : (xs ys : List ℕ) (g : Gluing) → Accepted xs ys × (g ≡ listed xs ys) → Glues g
 accepted_glues xs ys g p = subst Glues (sym p.1) (listed_glues xs ys p.0.fit p.0.rights p.0.ups p.0.reached)
 
-pub invariant-of-result : goal.invariant-of-result
-invariant-of-result c =
+pub invariant_of-result : goal.invariant_of-result
+invariant_of-result c =
     let g = c.in_ok-listed.field-0 in
     let h = accepted_glues c.args.right.now c.args.up.now g c.in_ok-listed.ensures in
-    ((h.some, h.few), (permutes_undone g.degree (right_of g) h.rights, (permutes_undone g.degree (up_of g) h.ups, (glued_whole g h 0 h.some, tt))))
+    record {
+      size = (h.some, h.few);
+      rights = permutes_undone g.degree (right_of g) h.rights;
+      ups = permutes_undone g.degree (up_of g) h.ups;
+      whole = glued_whole g h 0 h.some;
+    }
 
 pub returns : goal.returns
 returns c =
