@@ -21,17 +21,6 @@ pub shape_written : (s : Shape) (z : ℤ) → z ≡ s.genus12
     ≡ shape_lines s
 shape_written s z e = rw e (simp append_assoc)
 
-pub member_written : (r : ℕ) → eqb r 0 ≡ true → codes "member=yes\n" ≡ member_line r
-member_written r e = rw (e, member_line)
-
-pub other_written : (r : ℕ) → eqb r 0 ≡ false → codes "member=no\n" ≡ member_line r
-other_written r e = rw (e, member_line)
-
 pub row_written : (links : List Link) (r t s : ℕ) (w : List ℕ) → t ≡ next links T r → s ≡ next links S r → w ≡ word_field (characters (word_of links r))
     → codes "row=" ++ (decimal r ++ (codes "," ++ (decimal t ++ (codes "," ++ (decimal s ++ (codes "," ++ (w ++ codes "\n"))))))) ≡ row_line links r
 row_written links r t s w d e f = λ i. line "row=" (decimal r ∷ decimal (d i) ∷ decimal (e i) ∷ f i ∷ [])
-
--- what generator answers, as it is printed
-pub wide_written : (a : Result M2 Refusal) (e : Refusal) → Err e ≡ in_rows a → codes "gen=wide\n" ≡ answer_line a
-wide_written (Ok x) e p = let z : ◌≡◌ {A = ℕ} 0 1 = cc in absurd (omega arith)
-wide_written (Err y) e p = refl

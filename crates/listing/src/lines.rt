@@ -3,7 +3,7 @@ ghost use Rattle.std.specs.Prelude.{◌≡◌, ◌<◌, ◌≤◌, ◌++◌, len
 ghost use Rattle.listing.specs.Lines.{shape_lines, word_field, row_line, generator_line, member_line};
 
 use modular::letter::Letter;
-use std::fmt;
+use std::alloc::AllocError;
 use std::str::from_utf8;
 use table::finished::Finished;
 use table::link;
@@ -13,7 +13,7 @@ use table::shape::Shape;
 const LIMIT: u64 = 1_000_000_000;
 
 // A line for each number of the shape.
-pub fn shape_lines(text: &mut String, shape: Shape) -> fmt::Result
+pub fn shape_lines(text: &mut String, shape: Shape) -> Result<(), AllocError>
     ensures { OnOk result (string_bytes text.new ≡ string_bytes text.old ++ shape_lines shape) }
 {
     let Shape {
@@ -41,7 +41,7 @@ fn printed(word: &[u8]) -> &str
 }
 
 // A row: its number, where T and S lead from it, and its least word, for which the output has room.
-pub fn row_line(text: &mut String, table: &Finished, row: u16, out: &mut [u8]) -> fmt::Result
+pub fn row_line(text: &mut String, table: &Finished, row: u16, out: &mut [u8]) -> Result<(), AllocError>
     requires there { row < length table.now.links.now }
     requires room { row ≤ length out.old }
     ensures { OnOk result (string_bytes text.new ≡ string_bytes text.old ++ row_line table.now.links.now row) }
@@ -55,7 +55,7 @@ pub fn row_line(text: &mut String, table: &Finished, row: u16, out: &mut [u8]) -
 }
 
 // A generator: its entries, or `wide` where it is declined at the limit.
-pub fn generator_line(text: &mut String, table: &Finished, number: usize) -> fmt::Result
+pub fn generator_line(text: &mut String, table: &Finished, number: usize) -> Result<(), AllocError>
     ensures { OnOk result (string_bytes text.new ≡ string_bytes text.old ++ generator_line table.now.links.now number) }
 {
     match table.generator(number, LIMIT) {
@@ -63,17 +63,17 @@ pub fn generator_line(text: &mut String, table: &Finished, number: usize) -> fmt
             let [[a, b], [c, d]] = m;
             writeln!(text, "gen={a},{b},{c},{d}")
         }
-        Err(_) => text.write("gen=wide\n"),
+        Err(_) => text.push_str("gen=wide\n"),
     }
 }
 
 // Whether a matrix at a row is a member: the members are at row 0.
-pub fn member_line(text: &mut String, row: u16) -> fmt::Result
+pub fn member_line(text: &mut String, row: u16) -> Result<(), AllocError>
     ensures { OnOk result (string_bytes text.new ≡ string_bytes text.old ++ member_line row) }
 {
     if row == 0 {
-        text.write("member=yes\n")
+        text.push_str("member=yes\n")
     } else {
-        text.write("member=no\n")
+        text.push_str("member=no\n")
     }
 }

@@ -7,11 +7,11 @@ ghost use Rattle.modular.specs.Matrix.{entries};
 use crate::error::Error;
 use crate::lines;
 use modular::matrix::Matrix;
-use std::fmt;
+use std::alloc::AllocError;
 use table::finished::Finished;
 
 // A line for each row. The word of a row has no more letters than its number says, so there is room for all words.
-pub fn rows(text: &mut String, table: &Finished, out: &mut [u8]) -> fmt::Result
+pub fn rows(text: &mut String, table: &Finished, out: &mut [u8]) -> Result<(), AllocError>
     requires { length table.now.links.now ≤ length out.old }
     ensures { OnOk result (string_bytes text.new ≡ string_bytes text.old
         ++ each (row_line table.now.links.now) (length table.now.links.now)) }
@@ -23,7 +23,7 @@ pub fn rows(text: &mut String, table: &Finished, out: &mut [u8]) -> fmt::Result
 }
 
 // A line for each generator. There is one more than there are rows.
-pub fn generators(text: &mut String, table: &Finished) -> fmt::Result
+pub fn generators(text: &mut String, table: &Finished) -> Result<(), AllocError>
     ensures { OnOk result (string_bytes text.new ≡ string_bytes text.old
         ++ each (generator_line table.now.links.now) (length table.now.links.now + 1)) }
 {
