@@ -87,7 +87,7 @@ fn same(rt: &HostRuntime, tally: &mut Tally) -> anyhow::Result<()> {
     };
     let links = links_of(rt.alloc(), lines)?;
     let mirrored = links_of(rt.alloc(), Mirror::new(lines))?;
-    let got = Answer::Same(links.as_slice() == &LINES_2);
+    let got = Answer::Same(links.as_slice() == LINES_2.as_slice());
     tally.compare(
         rt,
         "the links of lines 2 and those written out",

@@ -1,5 +1,6 @@
 // The modular group: letters, words and integer matrices of two rows, and the actions of the group.
 #![tactic(auto)]
+
 pub mod acting;
 pub mod action;
 pub mod letter;

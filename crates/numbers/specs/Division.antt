@@ -1,7 +1,7 @@
 -- The truncating division of integers, by what quotient and remainder mean.
 --     Quotient a c q r     q and r are the quotient, rounded towards zero, and the remainder of a by c
 --     NoQuotient a c       a by c has no quotient among the numbers of 64 bits
-use Rattle.std.specs.Prelude.{◌≡◌, ◌<◌, ◌≤◌, ◌⊎◌, ℤ, pos, negsuc, ◌+ℤ◌, ◌*ℤ◌, ◌≤ℤ◌, unsigned_abs}
+use Rattle.std.specs.Prelude.{◌≡◌, ◌<◌, ◌⊎◌, ℤ, pos, negsuc, ◌+ℤ◌, ◌*ℤ◌, ◌≤ℤ◌, unsigned_abs}
 
 -- r is 0 or has the sign of a
 abbrev pub SignOf : ℤ → ℤ → Type 0

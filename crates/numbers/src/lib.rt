@@ -1,5 +1,6 @@
 // Facts on integers for every crate above, and the division that answers quotient and remainder together.
 #![tactic(auto)]
+
 ghost use Rattle.numbers.specs.Division.{Quotient, NoQuotient};
 ghost use Rattle.std.specs.Option.{MatchOption};
 

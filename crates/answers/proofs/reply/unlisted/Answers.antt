@@ -7,10 +7,10 @@ use Rattle.answers.proofs.reply.unlisted.Goals as goal
 joined : (n k : ℕ) → codes "refused=" ++ (decimal n ++ 44 ∷ (decimal k ++ 10 ∷ [])) ≡ refused_line n k
 joined n k = ap (λ l. codes "refused=" ++ l) (sym (append_assoc (decimal n) (44 ∷ decimal k) (10 ∷ [])))
 
-pub returns-in_ok-text : goal.returns-in_ok-text
-returns-in_ok-text c = (
+pub returns-in_ok-text-in-Declined : goal.returns-in_ok-text-in-Declined
+returns-in_ok-text-in-Declined c = (
   c.in-Declined.refusal,
   c.in-Declined.is,
-  c.in_ok-text.ensures.ok ∙ joined c.number-number.result c.place-place.result ∙ (λ i. refused_line (c.number-number.ensures i) (c.place-place.ensures i)),
+  c.in_ok-text-in-Declined.ensures.ok ∙ joined c.number-number.result c.place-place.result ∙ (λ i. refused_line (c.number-number.ensures i) (c.place-place.ensures i)),
   refl,
 )
