@@ -1,5 +1,6 @@
 // `cosets` reads a job from standard input and prints its answers, or the refusal of its first faulty line.
 #![tactic(auto)]
+
 use anyhow::anyhow;
 use jobs::read::LONGEST;
 use jobs::reply;

@@ -1,5 +1,5 @@
 -- A text spells one job or has one first fault, and never both.
-use Rattle.std.proofs.Common.{◌≡◌, ℕ, ◌+◌, List, [], ◌∷◌, ◌++◌, sym, refl, ◌∙◌, subst}
+use Rattle.std.proofs.Common.{◌≡◌, ℕ, List, [], ◌∷◌, ◌++◌, sym, refl, ◌∙◌, subst}
 use Rattle.jobs.specs.Bytes.{Keyed}
 use Rattle.jobs.specs.Line.{Line, Fault, form, unread, range, refused}
 use Rattle.jobs.proofs.Cuts.{one_split}

@@ -1,5 +1,6 @@
 // Origamis: squares glued along their sides, and the modular group's action on them.
 #![tactic(auto)]
+
 mod form;
 pub mod gluing;
 mod listing;

@@ -1,9 +1,9 @@
 -- Rows are cosets.
-use Rattle.std.proofs.Common.{◌≡◌, ℕ, ◌<◌, List, [], ◌++◌, length, pos, sym, refl, ap, ◌∙◌, subst}
+use Rattle.std.proofs.Common.{◌≡◌, ◌<◌, List, [], ◌++◌, length, pos, sym, refl, ap, ◌∙◌, subst}
 use Rattle.modular.specs.declared.letter.Letter.{Letter}
 use Rattle.modular.specs.declared.letter.Letter.TheVariants.{T, S}
 use Rattle.modular.specs.Actions.{lead, Member}
-use Rattle.modular.specs.Matrix.{M2, det, identity, inverted, ◌·◌}
+use Rattle.modular.specs.Matrix.{M2, det, inverted, ◌·◌}
 use Rattle.modular.specs.Words.{matrix}
 use Rattle.modular.proofs.Products.{matrix_append, product_assoc, identity_right, inverted_undoes}
 use Rattle.modular.proofs.Reaching.{has_word}

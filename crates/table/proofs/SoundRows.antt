@@ -1,5 +1,5 @@
 -- The rows of sound links, in the order of their words.
-use Rattle.std.proofs.Common.{◌≡◌, ℕ, zero, suc, ◌+◌, ◌*◌, ◌/◌, ◌%◌, ◌<◌, ◌≤◌, true, false, eqb, List, [], ◌∷◌, ◌++◌, length, get_or, sym, refl, ap, ◌∙◌, subst, arith, lt-ltb, eq-eqb, ne_eqb, eqb-true}
+use Rattle.std.proofs.Common.{◌≡◌, ℕ, zero, suc, ◌+◌, ◌*◌, ◌/◌, ◌%◌, ◌<◌, ◌≤◌, true, false, eqb, List, [], ◌∷◌, ◌++◌, length, get_or, sym, refl, ap, ◌∙◌, subst, arith, eq-eqb, ne_eqb, eqb-true}
 use native.Mathlib.Decide.{dec_lt}
 use Rattle.std.specs.List.{range_with_len}
 use Rattle.std.proofs.lemmas.List.FromFn.{length-range_with_len, get_or-range_with_len}
@@ -9,7 +9,7 @@ use Rattle.modular.specs.Actions.{Laws, lead}
 use Rattle.modular.proofs.Through.{lead_append}
 use Rattle.table.specs.declared.link.Link.{Link}
 use Rattle.table.specs.Acting.{IsRow, spelled, word_of}
-use Rattle.table.specs.Links.{at, aim, aim_at, edge, letter_at, next}
+use Rattle.table.specs.Links.{at, aim_at, edge, next}
 use Rattle.table.specs.Order.{Least, Listed, Whole, Among}
 use Rattle.table.specs.Soundness.{Sound}
 use Rattle.table.specs.laws.Edges.{aim_edge, next_at_row}

@@ -1,5 +1,5 @@
 -- The word of a row, letter by letter from its end.
-use Rattle.std.proofs.Common.{◌≡◌, ℕ, zero, suc, ◌+◌, ◌-◌, ◌<◌, ◌≤◌, List, [], ◌∷◌, ◌++◌, length, get_or, take, drop, set, Ok, Err, sym, refl, ap, ◌∙◌, subst, inl, inr, append_assoc, arith, take-append-drop}
+use Rattle.std.proofs.Common.{◌≡◌, ℕ, zero, suc, ◌+◌, ◌-◌, ◌<◌, ◌≤◌, List, [], ◌∷◌, ◌++◌, length, get_or, take, drop, set, Ok, Err, sym, refl, ap, ◌∙◌, inl, inr, append_assoc, arith, take-append-drop}
 use Rattle.std.proofs.lemmas.List.{length-take-le, take_more, drop_more, drop_all, same_from_push, set_at, length_push}
 use Rattle.std.proofs.lemmas.Bool.{cases_eq, lt-ltb, le-leb, lt-leb}
 use Rattle.modular.specs.declared.letter.Letter.{Letter}

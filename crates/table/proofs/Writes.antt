@@ -1,11 +1,11 @@
 -- Links read by the numbers of edges; what they hold after an edge is filled, and after a link is written; and which row a search finds.
-use Rattle.std.proofs.Common.{◌≡◌, ℕ, zero, suc, ◌/◌, ◌<◌, Bool, true, false, List, [], ◌∷◌, length, get_or, set, Some, None, sym, refl, ap, ◌∙◌, inl, inr, arith, get_or-set_other, get_or-set_same, lt-ltb, ne_eqb}
+use Rattle.std.proofs.Common.{◌≡◌, ℕ, zero, suc, ◌/◌, ◌<◌, Bool, true, false, List, [], ◌∷◌, length, get_or, set, Some, None, sym, refl, ap, ◌∙◌, inl, inr, arith, get_or-set_other, get_or-set_same, ne_eqb}
 use Rattle.std.proofs.lemmas.Bool.{cases_eq}
 use Rattle.modular.specs.declared.letter.Letter.{Letter}
 use Rattle.modular.specs.declared.letter.Letter.TheVariants.{T, S}
 use Rattle.table.specs.declared.link.Link.{Link}
 use Rattle.table.specs.Growing.{aimed, linked, sought}
-use Rattle.table.specs.Links.{aim, filled, empty, at, edge, letter_at, aim_at, next}
+use Rattle.table.specs.Links.{aim, filled, empty, at, edge, letter_at, aim_at}
 use Rattle.table.specs.SoundTest.{named}
 use Rattle.table.specs.laws.Edges.{letter_edge, row_edge}
 use Rattle.table.proofs.Codes.{edge_of}

@@ -5,7 +5,7 @@
 --     other_edges links       the edges that are no tree edges, in their order
 --     generators links       their matrices
 --     Product P M            M is a product of matrices of P; the empty product is the identity
-use Rattle.std.specs.Prelude.{ℕ, zero, suc, ◌+◌, ◌*◌, ◌/◌, Bool, cond, ◌&&◌, List, [], ◌∷◌, ◌++◌, map, length, ◌==◌, nat_lt}
+use Rattle.std.specs.Prelude.{ℕ, zero, suc, ◌*◌, ◌/◌, Bool, cond, ◌&&◌, List, [], ◌∷◌, ◌++◌, map, length, ◌==◌, nat_lt}
 use Rattle.modular.specs.Matrix.{M2, identity, inverted, ◌·◌}
 use Rattle.modular.specs.Words.{matrix, of_letter}
 use Rattle.table.specs.declared.link.Link.{Link}

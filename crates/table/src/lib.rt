@@ -1,5 +1,6 @@
 // Coset tables: rows of records, and the links between them.
 #![tactic(auto)]
+
 pub mod counts;
 mod cycle;
 mod edges;

@@ -10,7 +10,7 @@
 --                           memory for 8 rows takes 12 and has then no free row; the three squares
 use Rattle.std.specs.Prelude.{◌≡◌, ℕ, zero, suc, Bool, true, false, ◌&&◌, List, [], ◌∷◌, map, length, take, replicate, ℤ, pos, negsuc, Ok, Err, codes, Result, ◌==◌, int_le}
 use Rattle.std.specs.Str.{bytes_eq as same}
-use Rattle.modular.specs.declared.letter.Letter.TheVariants.{T, S}
+use Rattle.modular.specs.declared.letter.Letter.TheVariants.{T}
 use Rattle.modular.specs.Actions.{lead}
 use Rattle.modular.specs.Inverses.{back_t, back_s}
 use Rattle.modular.specs.Matrix.{M2}

@@ -1,5 +1,6 @@
 // Worked examples, checked as facts about the definitions.
 #![tactic(auto)]
+
 ghost use Rattle.std.specs.Prelude.{◌≡◌};
 ghost use Rattle.worked.specs.Examples.{Worked};
 

@@ -1,5 +1,5 @@
 use Rattle.std.proofs.Common.{◌∙◌, arith}
-use Rattle.origami.specs.Forms.{reading, better}
+use Rattle.origami.specs.Forms.{better}
 use Rattle.origami.proofs.Smallest.{smallest_more, smallest_all}
 use Rattle.origami.proofs.form.least.Goals as goal
 

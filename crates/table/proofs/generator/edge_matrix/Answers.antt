@@ -1,8 +1,8 @@
 -- The two words of the edge, and the matrix that they leave.
-use Rattle.std.proofs.Common.{◌≡◌, ◌/◌, true, ◌&&◌, [], ◌∷◌, ◌++◌, sym, ap, ◌∙◌, subst}
+use Rattle.std.proofs.Common.{◌≡◌, ◌/◌, true, ◌&&◌, [], ◌∷◌, ◌++◌, sym, ap, ◌∙◌}
 use Rattle.std.proofs.lemmas.Bool.{and_parts, and_from}
 use Rattle.modular.specs.Matrix.{det, entries, identity, inverted, rows, ◌·◌}
-use Rattle.modular.specs.Words.{matrix, of_letter}
+use Rattle.modular.specs.Words.{of_letter}
 use Rattle.modular.proofs.Through.{det_word}
 use Rattle.table.specs.Acting.{word_of}
 use Rattle.table.specs.Generators.{word_matrix, generator_at}

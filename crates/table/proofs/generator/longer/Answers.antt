@@ -1,5 +1,5 @@
 -- A product that does not fit has an entry beyond every limit.
-use Rattle.std.proofs.Common.{◌≡◌, true, sym, ap, ◌∙◌, subst}
+use Rattle.std.proofs.Common.{sym, ap, ◌∙◌, subst}
 use Rattle.std.proofs.lemmas.Bool.{both_ways}
 use Rattle.modular.specs.Matrix.{Fits, entries, rows, ◌·◌}
 use Rattle.modular.specs.Words.{of_letter}

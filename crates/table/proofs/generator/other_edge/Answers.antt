@@ -1,5 +1,5 @@
 -- Tree edges are passed over, and the others counted up to the number.
-use Rattle.std.proofs.Common.{◌≡◌, ◌+◌, ◌*◌, ◌<◌, ◌≤◌, length, get_or, sym, ap, ◌∙◌, arith}
+use Rattle.std.proofs.Common.{◌≡◌, ◌*◌, ◌≤◌, length, sym, ap, ◌∙◌, arith}
 use Rattle.std.proofs.lemmas.List.{get_or_past}
 use Rattle.table.specs.Generators.{other_below, other_edges}
 use Rattle.table.proofs.OtherEdges.{other_tree, length_more, other_at}

@@ -7,7 +7,7 @@ use Rattle.modular.specs.declared.letter.Letter.TheVariants.{T, S}
 use Rattle.modular.specs.Matrix.{identity, rows}
 use Rattle.modular.specs.Words.{matrix}
 use Rattle.table.specs.Acting.{word_of}
-use Rattle.table.specs.Questions.{character, characters, letters, prefixes, written}
+use Rattle.table.specs.Questions.{character, characters, letters, prefixes}
 use Rattle.table.proofs.generator.row_matrix.Goals as goal
 
 -- a letter is read back from its character

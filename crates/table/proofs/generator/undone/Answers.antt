@@ -1,5 +1,5 @@
 -- A matrix of determinant 1 within the limit has an inverse within it, and a product that does not fit is beyond it.
-use Rattle.std.proofs.Common.{◌≡◌, sym, ap, ◌∙◌, subst}
+use Rattle.std.proofs.Common.{sym, ap, ◌∙◌, subst}
 use Rattle.std.proofs.lemmas.Bool.{both_ways}
 use Rattle.modular.specs.Matrix.{Fits, entries, inverted, rows, ◌·◌}
 use Rattle.table.specs.Questions.{within}

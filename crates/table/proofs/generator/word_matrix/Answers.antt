@@ -1,10 +1,10 @@
 -- One letter more multiplies on the right, and the first product beyond the limit decides.
-use Rattle.std.proofs.Common.{◌≡◌, ℕ, ◌+◌, ◌<◌, ◌≤◌, Bool, true, false, List, [], length, get_or, take, drop, sym, refl, ap, ◌∙◌, subst, inl, inr, arith}
+use Rattle.std.proofs.Common.{◌≡◌, ℕ, ◌+◌, ◌<◌, ◌≤◌, true, List, length, get_or, take, drop, sym, refl, ap, ◌∙◌, inl, inr, arith}
 use Rattle.std.proofs.lemmas.List.{take_more, take_all, drop_more, drop_all, get_or-map, length-map}
 use Rattle.std.proofs.lemmas.Bool.{both_ways, cases_Bool}
 use Rattle.modular.specs.declared.letter.Letter.{Letter}
 use Rattle.modular.specs.declared.letter.Letter.TheVariants.{T}
-use Rattle.modular.specs.Matrix.{M2, entries, rows, identity, ◌·◌}
+use Rattle.modular.specs.Matrix.{entries, rows, identity, ◌·◌}
 use Rattle.modular.specs.Words.{matrix, of_letter}
 use Rattle.modular.proofs.Products.{matrix_snoc}
 use Rattle.table.specs.Questions.{letters, prefixes, within, written}

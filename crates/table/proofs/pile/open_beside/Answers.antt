@@ -1,5 +1,5 @@
 -- What is opened is the pile.
-use Rattle.std.proofs.Common.{◌≡◌, Ok, Err, sym, ap, ◌∙◌, subst, MatchResult}
+use Rattle.std.proofs.Common.{◌≡◌, Ok, Err, ap, ◌∙◌, subst, MatchResult}
 use Rattle.table.specs.Growing.{opened}
 use Rattle.table.specs.Piles.{pile, pile_of}
 use Rattle.table.proofs.EveryRun.{every_run}

@@ -1,5 +1,5 @@
 -- A row from 1 on has one letter more than its parent.
-use Rattle.std.proofs.Common.{◌≡◌, ◌+◌, ◌-◌, length, sym, ap, ◌∙◌, arith}
+use Rattle.std.proofs.Common.{◌≡◌, ◌+◌, ◌-◌, length, ap, arith}
 use Rattle.table.specs.Acting.{spelled}
 use Rattle.table.proofs.SoundRows.{spelled_zero}
 use Rattle.table.proofs.Spelt.{spelled_on}

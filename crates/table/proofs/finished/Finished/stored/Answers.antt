@@ -1,6 +1,5 @@
 -- A stored list is told by its tests; the laws are the theorems of their names.
-use Rattle.std.proofs.Common.{◌≡◌, length, Ok, sym, ap, ◌∙◌}
-use Rattle.std.proofs.lemmas.Bool.{and_parts, leb-true}
+use Rattle.std.proofs.Common.{Ok, sym, ap, ◌∙◌}
 use Rattle.table.specs.declared.refusal.Refusal.TheVariants.{Memory, Unsound}
 use Rattle.table.specs.Runs.{store_by}
 use Rattle.table.specs.SoundTest.{sound}

@@ -1,7 +1,7 @@
 -- Fill is its definition, by its tests.
-use Rattle.std.proofs.Common.{◌≡◌, ◌-◌, ◌<◌, length, sym, refl, ap, ◌∙◌, arith}
+use Rattle.std.proofs.Common.{◌-◌, ◌<◌, length, sym, refl, ap, ◌∙◌, arith}
 use Rattle.std.proofs.lemmas.List.{get_or_default}
-use Rattle.table.specs.Growing.{moment, next_row, found}
+use Rattle.table.specs.Growing.{moment, next_row}
 use Rattle.table.proofs.FillTests.{made_is, found_is, aimed_is, Ready, old_answer, old_memory, fill_full}
 use Rattle.table.proofs.growing.Growing.fill.Goals as goal
 
