@@ -9,7 +9,7 @@
 use Rattle.std.specs.Prelude.{◌≡◌, ℕ, zero, suc, ◌+◌, ◌*◌, ◌<◌, ◌≤◌, Bool, true, false, cond, ◌↔◌, List, length, pos, ◌-ℤ◌, ◌==◌, nat_eq, nat_lt}
 use Rattle.modular.specs.declared.letter.Letter.TheVariants.{T, S}
 use Rattle.table.specs.declared.link.Link.{Link}
-pub use Rattle.table.specs.declared.shape.Shape.{Shape}
+use Rattle.table.specs.declared.shape.Shape.{Shape}
 use Rattle.table.specs.Links.{next}
 use Rattle.table.specs.Widths.{times, width}
 
