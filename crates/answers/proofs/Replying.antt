@@ -1,13 +1,12 @@
 -- What a listing, or its refusal, tells of a job.
-use Rattle.std.proofs.Common.{◌≡◌, ℕ, suc, Bool, true, false, ◌&&◌, ◌⊎◌, List, [], ◌∷◌, ℤ, pos, negsuc, Ok, Err, string_bytes, Result, String, sym, refl, ap, ◌∙◌, inl, inr, arith}
+use Rattle.std.proofs.Common.{◌≡◌, ℕ, suc, Bool, true, false, List, [], ◌∷◌, ℤ, pos, Ok, Err, string_bytes, Result, String, sym, refl, ap, ◌∙◌, inl, inr, arith}
 use Rattle.std.specs.declared.alloc.Global.{Global}
 use Rattle.std.proofs.lemmas.Bool.{and_from, le-leb}
 use Rattle.modular.specs.Matrix.{M2, det}
 use Rattle.table.specs.declared.refusal.Refusal.{Refusal}
 use Rattle.table.specs.declared.refusal.Refusal.TheVariants.{NoFreeRow}
 use Rattle.table.specs.Questions.{is_one, place_by, within}
-use Rattle.listing.specs.declared.error.Error.{Error}
-use Rattle.listing.specs.declared.error.Error.TheVariants.{Declined, Memory}
+use Rattle.listing.specs.declared.error.Error.TheVariants.{Declined}
 use Rattle.listing.specs.Grown.{Tabulated, Crowded, FirstUnplaced, GrownOr}
 use Rattle.job_texts.specs.declared.fault.Fault.TheVariants as fault
 use Rattle.job_texts.specs.declared.fault.MatrixFault.TheVariants.{Determinant}

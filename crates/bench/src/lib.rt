@@ -1,6 +1,7 @@
 // Work for the benchmark of bench/, exported for a Rust program to link. Each call answers a checksum, or 0 where a level, an
 // origami or the memory is declined.
 #![tactic(auto)]
+
 use levels::lines::Lines;
 use levels::matrices::Matrices;
 use levels::vectors::Vectors;

@@ -1,5 +1,6 @@
 // Runs stored jobs through the library, and compares what it prints with what is stored beside them.
 #![tactic(auto)]
+
 use answers::reply::reply_to;
 use std::{env, fs};
 

@@ -1,5 +1,6 @@
 // Runs worked examples and published tables against the library, and prints what came beside what was expected.
 #![tactic(auto)]
+
 use tally::Tally;
 
 mod asking;

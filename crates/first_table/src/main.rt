@@ -1,5 +1,6 @@
 // A first program over the library: the table of the lines of level 6.
 #![tactic(auto)]
+
 use anyhow::anyhow;
 use levels::lines::Lines;
 use levels::vectors::Vector;

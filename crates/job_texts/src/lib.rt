@@ -1,5 +1,6 @@
 // Jobs: from the text of a job to a value, or to the refusal of its first faulty line.
 #![tactic(auto)]
+
 mod bytes;
 pub mod fault;
 pub mod job;

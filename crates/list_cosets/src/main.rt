@@ -1,5 +1,6 @@
 // `cosets` reads a job from standard input and prints the listing of its table, or why there is none.
 #![tactic(auto)]
+
 use answers::reply::reply_to;
 use anyhow::anyhow;
 use job_texts::read::LONGEST;

@@ -1,5 +1,5 @@
 -- What an accepted open tells of the memory.
-use Rattle.std.proofs.Common.{◌≡◌, Bool, true, false, eqb, List, length, Ok, Err, sym, refl, ap, ◌∙◌}
+use Rattle.std.proofs.Common.{◌≡◌, Bool, true, false, eqb, List, length, Ok, sym, refl, ap}
 use Rattle.std.proofs.lemmas.Bool.{and_parts, eqb-true}
 use Rattle.table.specs.declared.counts.Counts.{Counts}
 use Rattle.table.specs.declared.link.Link.{Link}

@@ -1,26 +1,21 @@
 -- A table that is filled as far as it goes, closed and listed.
-use Rattle.std.proofs.Common.{◌≡◌, ℕ, ◌*◌, ◌/◌, ◌<◌, ◌≤◌, Bool, true, false, eqb, ◌⊎◌, List, [], ◌∷◌, ◌++◌, length, get_or, take, pos, Ok, Err, string_bytes, Decides, Result, String, sym, refl, ap, ◌∙◌, subst, inl, inr, append_assoc, append-nil, arith, MatchResult}
+use Rattle.std.proofs.Common.{◌≡◌, ℕ, ◌*◌, ◌<◌, Bool, true, false, eqb, List, [], ◌∷◌, ◌++◌, length, get_or, take, Ok, Err, string_bytes, Decides, Result, String, sym, refl, ap, ◌∙◌, subst, inl, inr, append_assoc, append-nil, arith, MatchResult}
 use Rattle.std.proofs.lemmas.List.{length-take-le, get_or-take, get_or_default}
 use Rattle.std.proofs.lemmas.Bool.Decides.{Decides-eqb}
 use Rattle.modular.specs.declared.letter.Letter.{Letter}
 use Rattle.modular.specs.declared.letter.Letter.TheVariants.{T, S}
-use Rattle.modular.specs.Actions.{lead, Member, Reachable}
+use Rattle.modular.specs.Actions.{Member, Reachable}
 use Rattle.modular.specs.Matrix.{M2, det}
-use Rattle.modular.specs.Words.{matrix}
 use Rattle.modular.proofs.Reaching.{has_word}
 use Rattle.modular.proofs.Through.{lead_append}
-use Rattle.table.specs.declared.counts.Counts.{Counts}
 use Rattle.table.specs.declared.link.Link.{Link}
 use Rattle.table.specs.declared.refusal.Refusal.{Refusal}
 use Rattle.table.specs.declared.refusal.Refusal.TheVariants.{NoFreeRow}
 use Rattle.table.specs.Facts.{Growth, Steps}
-use Rattle.table.specs.Finished.{row_of}
 use Rattle.table.specs.Growing.{Growing, filling, closing, next_row, next_letter, step}
-use Rattle.table.specs.Matrices.{MatrixLaw}
-use Rattle.table.specs.Order.{Among, Listed}
 use Rattle.table.specs.Questions.{placing, place_by, within, is_one}
 use Rattle.table.specs.Placing.{placed}
-use Rattle.table.specs.Runs.{Event, Run, EveryRun, Table, growing, finished, call, answered, called, fill, close, own, place, closed}
+use Rattle.table.specs.Runs.{Event, Run, EveryRun, growing, finished, call, answered, called, fill, close, own, place, closed}
 use Rattle.std.specs.declared.alloc.Global.{Global}
 use Rattle.listing.specs.declared.error.Error.{Error}
 use Rattle.listing.specs.declared.error.Error.TheVariants.{Declined, Memory}

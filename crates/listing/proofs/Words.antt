@@ -1,5 +1,5 @@
 -- The word of a row: how long it is, what it is spelled with, and that it has room.
-use Rattle.std.proofs.Common.{◌≡◌, ℕ, zero, suc, ◌-◌, ◌<◌, ◌≤◌, Bool, true, false, eqb, List, [], ◌∷◌, ◌++◌, length, take, drop, is_ok, Ok, Err, IsAscii, Result, sym, refl, ap, ◌∙◌, subst, arith, MatchResult}
+use Rattle.std.proofs.Common.{◌≡◌, ℕ, zero, suc, ◌-◌, ◌<◌, ◌≤◌, Bool, true, false, eqb, List, [], ◌∷◌, ◌++◌, length, take, drop, is_ok, Ok, Err, IsAscii, Result, sym, refl, ap, ◌∙◌, arith, MatchResult}
 use lib.ListN.{length-map}
 use Rattle.std.proofs.lemmas.Str.Ascii.{IsAscii-nil, IsAscii-cons}
 use Rattle.std.proofs.lemmas.List.{length_push, take_at}

@@ -1,15 +1,13 @@
 -- What is written to the end of a text.
-use Rattle.std.proofs.Common.{◌≡◌, ℕ, true, false, eqb, List, [], ◌∷◌, ◌++◌, ℤ, IfOk, Ok, Err, codes, decimal, Result, refl, ap, ◌∙◌, append_assoc, arith}
+use Rattle.std.proofs.Common.{◌≡◌, ℕ, List, [], ◌∷◌, ◌++◌, ℤ, IfOk, Ok, Err, codes, decimal, Result, ap, ◌∙◌, append_assoc}
 use Rattle.std.specs.Fmt.{signed_decimal}
 use Rattle.modular.specs.declared.letter.Letter.TheVariants.{T, S}
-use Rattle.modular.specs.Matrix.{M2}
 use Rattle.table.specs.declared.link.Link.{Link}
-use Rattle.table.specs.declared.refusal.Refusal.{Refusal}
 use Rattle.table.specs.declared.shape.Shape.{Shape}
 use Rattle.table.specs.Acting.{word_of}
 use Rattle.table.specs.Links.{next}
-use Rattle.table.specs.Questions.{characters, in_rows}
-use Rattle.listing.specs.Lines.{line, shape_lines, word_field, row_line, answer_line, member_line}
+use Rattle.table.specs.Questions.{characters}
+use Rattle.listing.specs.Lines.{line, shape_lines, word_field, row_line}
 
 -- the same bytes in other words
 pub added : {X Y : Type 0} (r : Result X Y) (was text bs ds : List ℕ) → bs ≡ ds → IfOk r (λ _. text ≡ was ++ bs) → IfOk r (λ _. text ≡ was ++ ds)

@@ -1,5 +1,6 @@
 // The text of a listing: what is printed of a finished table, and of matrices by it.
 #![tactic(auto)]
+
 ghost use Rattle.std.specs.Prelude.{◌≡◌, map, Ok, string_bytes, MatchResult};
 ghost use Rattle.listing.specs.Errors.{Tells};
 ghost use Rattle.listing.specs.Lines.{listing};

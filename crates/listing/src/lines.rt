@@ -41,7 +41,12 @@ fn printed(word: &[u8]) -> &str
 }
 
 // A row: its number, where T and S lead from it, and its least word, for which the output has room.
-pub fn row_line(text: &mut String, table: &Finished, row: u16, out: &mut [u8]) -> Result<(), AllocError>
+pub fn row_line(
+    text: &mut String,
+    table: &Finished,
+    row: u16,
+    out: &mut [u8],
+) -> Result<(), AllocError>
     requires there { row < length table.now.links.now }
     requires room { row ≤ length out.old }
     ensures { OnOk result (string_bytes text.new ≡ string_bytes text.old ++ row_line table.now.links.now row) }

@@ -1,5 +1,5 @@
 -- The listing of the job that was read, or why there is none.
-use Rattle.std.proofs.Common.{◌≡◌, ℕ, Bool, false, List, IfOk, Ok, Err, string_bytes, Result, sym, ap, ◌∙◌, subst, inr}
+use Rattle.std.proofs.Common.{◌≡◌, ℕ, false, List, IfOk, Ok, Err, string_bytes, Result, sym, ap, ◌∙◌, subst, inr}
 use Rattle.std.specs.declared.alloc.AllocError.{AllocError}
 use Rattle.listing.specs.declared.error.Error.{Error}
 use Rattle.listing.specs.declared.error.Error.TheVariants.{Declined}

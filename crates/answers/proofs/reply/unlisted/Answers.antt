@@ -1,5 +1,5 @@
 -- The number that is printed is the refusal's.
-use Rattle.std.proofs.Common.{◌≡◌, ℕ, List, [], ◌∷◌, ◌++◌, codes, decimal, sym, refl, ap, ◌∙◌, append_assoc}
+use Rattle.std.proofs.Common.{◌≡◌, ℕ, [], ◌∷◌, ◌++◌, codes, decimal, sym, refl, ap, ◌∙◌, append_assoc}
 use Rattle.answers.specs.Replies.{refused_line}
 use Rattle.answers.proofs.reply.unlisted.Goals as goal
 

@@ -1,5 +1,5 @@
 -- Each turn is an accepted fill, and the first that is declined ends it.
-use Rattle.std.proofs.Common.{◌≡◌, sym, refl, ap, ◌∙◌}
+use Rattle.std.proofs.Common.{refl, ap, ◌∙◌}
 use Rattle.table.specs.Growing.{moment, filling}
 use Rattle.listing.specs.Grown.{none}
 use Rattle.listing.proofs.Fills.{filled_more, filled_last}

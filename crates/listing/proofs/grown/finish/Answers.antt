@@ -1,5 +1,5 @@
 -- The run goes on through the fills to the close, and the listing tells its table.
-use Rattle.std.proofs.Common.{◌≡◌, map, take, sym, ◌∙◌, subst, inl}
+use Rattle.std.proofs.Common.{map, take, sym, ◌∙◌, subst, inl}
 use Rattle.modular.specs.Matrix.{entries}
 use Rattle.table.specs.Growing.{moment}
 use Rattle.listing.specs.Grown.{Crowded}

@@ -1,7 +1,7 @@
 -- A run begins at the open table.
-use Rattle.std.proofs.Common.{◌≡◌, List, [], map, length, sym, refl, ap, ◌∙◌, subst, inl, inr}
+use Rattle.std.proofs.Common.{◌≡◌, [], map, sym, ◌∙◌, subst, inr}
 use Rattle.modular.specs.Matrix.{entries}
-use Rattle.table.specs.Growing.{Growing, moment, opened}
+use Rattle.table.specs.Growing.{moment}
 use Rattle.table.specs.Runs.{Run, started, begun, growing}
 use Rattle.listing.specs.Grown.{Finishes, ListedOr}
 use Rattle.listing.proofs.Opening.{opened_lent}

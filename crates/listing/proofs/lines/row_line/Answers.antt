@@ -1,5 +1,5 @@
 -- The word of a row fits the output, and is written as it is spelled.
-use Rattle.std.proofs.Common.{◌≡◌, ◌-◌, take, IsAscii, sym, ap, ◌∙◌, subst}
+use Rattle.std.proofs.Common.{IsAscii, sym, ap, ◌∙◌, subst}
 use Rattle.modular.specs.declared.letter.Letter.TheVariants.{T, S}
 use Rattle.table.specs.Acting.{word_of}
 use Rattle.table.specs.Links.{next}
