@@ -3,4 +3,5 @@ pub mod Euclid
 pub mod LineMembers
 pub mod MatrixMembers
 pub mod Members
+pub mod Primitives
 pub mod VectorMembers

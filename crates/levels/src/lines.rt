@@ -2,7 +2,8 @@
 ghost use Rattle.std.specs.Prelude.{◌≡◌};
 ghost use Rattle.levels.specs.Lines.{IsLine, scaled, earlier, better, least, sheared, turned};
 ghost use Rattle.levels.specs.Vectors.{first, alike};
-ghost use Rattle.levels.specs.laws.Lines.{line_laws};
+ghost use Rattle.levels.specs.laws.Lines.{line_laws_by};
+ghost use Rattle.levels.specs.laws.Vectors.{combine};
 
 use crate::level::Level;
 use crate::vectors::{Vector, Vectors};
@@ -73,7 +74,7 @@ impl Action for Lines {
 
     ghost agrees = { λ _. alike };
 
-    ghost laws = { λ a. line_laws a.vectors.level.n a.vectors.level.ok.0 };
+    ghost laws = { λ a. line_laws_by a.vectors.level.n a.vectors.level.ok.0 (combine a.vectors.level.n a.vectors.level.ok.0) };
 
     fn first(&self) -> Vector {
         self.vectors.first()

@@ -1,6 +1,6 @@
 // Vectors modulo a level, on which the modular group acts from the right.
 ghost use Rattle.levels.specs.Vectors.{Primitive, first, sheared, turned, alike};
-ghost use Rattle.levels.specs.laws.Vectors.{vector_laws};
+ghost use Rattle.levels.specs.laws.Vectors.{vector_laws_by, combine};
 
 use crate::level::Level;
 use modular::action::Action;
@@ -32,7 +32,7 @@ impl Action for Vectors {
 
     ghost agrees = { λ _. alike };
 
-    ghost laws = { λ a. vector_laws a.level.n a.level.ok.0 };
+    ghost laws = { λ a. vector_laws_by a.level.n a.level.ok.0 (combine a.level.n a.level.ok.0) };
 
     fn first(&self) -> Vector {
         Vector {

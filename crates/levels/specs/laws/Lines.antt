@@ -15,7 +15,7 @@ use Rattle.levels.specs.declared.vectors.Vector.{Vector}
 use Rattle.levels.specs.laws.Least.{is_late, not_earlier_both, scaled_one, coprime_one, least_is, least_scaled}
 use Rattle.levels.specs.laws.Models.{Pictures, four_s, three_st}
 use Rattle.levels.specs.laws.Residues.{from_cong, back}
-use Rattle.levels.specs.laws.Vectors.{same, lower, below, lower_pictures, whole, spans→primitive, primitive→spans, sheared_primitive, turned_primitive, vector_laws}
+use Rattle.levels.specs.laws.Vectors.{same, lower, below, lower_pictures, whole, Combine, sheared_primitive_by, turned_primitive_by, vector_laws_by}
 use Rattle.levels.specs.Lines.{scaled, earlier, least, IsLine, sheared, turned}
 use Rattle.levels.specs.Vectors as vectors
 use Rattle.levels.specs.Vectors.{Primitive, first, alike}
@@ -60,11 +60,11 @@ module _ (n : ℕ) (h : 0 < n) where
     s_is = λ x. least_turned (lower n x) ∙ ap (least n) ((lower_pictures n h).s_is x);
   }
 
-  scaled_primitive : (u : ℕ) (v : Vector) → gcd u n ≡ 1 → Primitive n v → Primitive n (scaled n u v)
-  scaled_primitive u v e p =
+  pub scaled_primitive_by : Combine n → (u : ℕ) (v : Vector) → gcd u n ≡ 1 → Primitive n v → Primitive n (scaled n u v)
+  scaled_primitive_by all u v e p =
       let i = coprime→inverse u n h e in
-      let k = primitive→spans n h v p in
-      spans→primitive n h (pos u *ℤ pos v.c) (pos u *ℤ pos v.d) (record {
+      let k = all.to_spans v p in
+      all.from_spans (pos u *ℤ pos v.c) (pos u *ℤ pos v.d) (record {
         p = pos i.0 *ℤ k.p;
         q = pos i.0 *ℤ k.q;
         one = subst (λ z. Cong n z (pos 1)) (spread (pos u) (pos i.0) k.p k.q (pos v.c) (pos v.d)) (cong_mul i.2 k.one);
@@ -74,9 +74,9 @@ module _ (n : ℕ) (h : 0 < n) where
       spread = solve 6 (λ u i p q c d. (u ⊗ i) ⊗ (p ⊗ c ⊕ q ⊗ d) ≐ (i ⊗ p) ⊗ (u ⊗ c) ⊕ (i ⊗ q) ⊗ (u ⊗ d)) tt
 
   -- the least multiple of a primitive vector is a line
-  least_line : (v : Vector) → Primitive n v → IsLine n (least n v)
-  least_line v p = let m = (least_is n h v).multiple in record {
-    primitive = subst (Primitive n) (sym m.2) (scaled_primitive m.0 v m.1 p);
+  pub least_line_by : Combine n → (v : Vector) → Primitive n v → IsLine n (least n v)
+  least_line_by all v p = let m = (least_is n h v).multiple in record {
+    primitive = subst (Primitive n) (sym m.2) (scaled_primitive_by all m.0 v m.1 p);
     own = ap (least n) m.2 ∙ least_scaled n h m.0 v m.1;
   }
 
@@ -115,15 +115,15 @@ module _ (n : ℕ) (h : 0 < n) where
           (sym (scaled_one n h (first n)) ∙ same (from_cong n h (back n h (pos 0))) (from_cong n h (back n h (pos 1))))
           ((least_is n h (first n)).none_earlier 1 (coprime_one n h))
 
-pub line_laws : (n : ℕ) → 0 < n → Laws (IsLine n) (first n) (sheared n) (turned n) alike
-line_laws n h = record {
-  first_point = record { primitive = (vector_laws n h).first_point; own = first_own n h };
-  t_point = λ v p. least_line n h (vectors.sheared n v) (sheared_primitive n h v p.primitive);
-  s_point = λ v p. least_line n h (vectors.turned n v) (turned_primitive n h v p.primitive);
+pub line_laws_by : (n : ℕ) → 0 < n → Combine n → Laws (IsLine n) (first n) (sheared n) (turned n) alike
+line_laws_by n h all = record {
+  first_point = record { primitive = (vector_laws_by n h all).first_point; own = first_own n h };
+  t_point = λ v p. least_line_by n h all (vectors.sheared n v) (sheared_primitive_by n all v p.primitive);
+  s_point = λ v p. least_line_by n h all (vectors.turned n v) (turned_primitive_by n all v p.primitive);
   four_s = λ v p. four_s (line_pictures n h) (below v) (drawn v p);
   three_st = λ v p. three_st (line_pictures n h) (below v) (drawn v p);
-  agree_same = (vector_laws n h).agree_same;
-  same_agree = (vector_laws n h).same_agree;
+  agree_same = (vector_laws_by n h all).agree_same;
+  same_agree = (vector_laws_by n h all).same_agree;
 }
   where
     drawn : (v : Vector) → IsLine n v → v ≡ line n (below v)

@@ -1,4 +1,6 @@
 -- The action on vectors keeps the laws of an action.
+-- What rests on which vectors are primitive takes that as a premise, Combine, so that a wrong definition of them is refused at
+-- `combine` alone. With no premise these theorems stand in proofs/Primitives.
 use Rattle.std.specs.Prelude.{◌≡◌, ℕ, ◌<◌, ℤ, pos, ◌+ℤ◌, ◌-ℤ◌, neg_ℤ}
 use Rattle.std.proofs.Common.{ap}
 use Rattle.numbers.specs.Residues.{residue}
@@ -25,6 +27,21 @@ lower n x = vector n x.c x.d
 abbrev pub below : Vector → M2
 below v = record { a = pos 0; b = pos 0; c = pos v.c; d = pos v.d }
 
+-- the primitive vectors are those whose entries combine to 1
+pub record Combine (n : ℕ) : Type 0 where
+  pub from_spans : (x y : ℤ) → Spans n x y → Primitive n (vector n x y)
+  pub to_spans : (v : Vector) → Primitive n v → Spans n (pos v.c) (pos v.d)
+
+pub combine : (n : ℕ) → 0 < n → Combine n
+combine n h = record {
+  from_spans = λ x y k. record {
+    c_below = residue_below n x h;
+    d_below = residue_below n y h;
+    coprime = spans→coprime n h (residue n x) (residue n y) (spans_cong (residue_cong n x h) (residue_cong n y h) k);
+  };
+  to_spans = λ v p. coprime→spans n h v.c v.d p.coprime;
+}
+
 module _ (n : ℕ) (h : 0 < n) where
   pub lower_pictures : Pictures (lower n) (sheared n) (turned n)
   lower_pictures = record {
@@ -36,37 +53,28 @@ module _ (n : ℕ) (h : 0 < n) where
   pub whole : (v : Vector) → Primitive n v → v ≡ lower n (below v)
   whole v p = same (residue_small n v.c p.c_below) (residue_small n v.d p.d_below)
 
-  pub spans→primitive : (x y : ℤ) → Spans n x y → Primitive n (vector n x y)
-  spans→primitive x y k = record {
-    c_below = residue_below n x h;
-    d_below = residue_below n y h;
-    coprime = spans→coprime n h (residue n x) (residue n y) (spans_cong (residue_cong n x h) (residue_cong n y h) k);
-  }
-
-  pub primitive→spans : (v : Vector) → Primitive n v → Spans n (pos v.c) (pos v.d)
-  primitive→spans v p = coprime→spans n h v.c v.d p.coprime
-
-  pub sheared_primitive : (v : Vector) → Primitive n v → Primitive n (sheared n v)
-  sheared_primitive v p = let k = primitive→spans v p in
-      spans→primitive (pos v.c) (pos v.c +ℤ pos v.d) (record {
+module _ (n : ℕ) (all : Combine n) where
+  pub sheared_primitive_by : (v : Vector) → Primitive n v → Primitive n (sheared n v)
+  sheared_primitive_by v p = let k = all.to_spans v p in
+      all.from_spans (pos v.c) (pos v.c +ℤ pos v.d) (record {
         p = k.p -ℤ k.q;
         q = k.q;
         one = rw (solve 4 (λ p q c d. (p ⊝ q) ⊗ c ⊕ q ⊗ (c ⊕ d) ≐ p ⊗ c ⊕ q ⊗ d) tt k.p k.q (pos v.c) (pos v.d)) k.one;
       })
 
-  pub turned_primitive : (v : Vector) → Primitive n v → Primitive n (turned n v)
-  turned_primitive v p = let k = primitive→spans v p in
-      spans→primitive (pos v.d) (neg_ℤ (pos v.c)) (record {
+  pub turned_primitive_by : (v : Vector) → Primitive n v → Primitive n (turned n v)
+  turned_primitive_by v p = let k = all.to_spans v p in
+      all.from_spans (pos v.d) (neg_ℤ (pos v.c)) (record {
         p = k.q;
         q = neg_ℤ k.p;
         one = rw (solve 4 (λ p q c d. q ⊗ d ⊕ ⊖ p ⊗ ⊖ c ≐ p ⊗ c ⊕ q ⊗ d) tt k.p k.q (pos v.c) (pos v.d)) k.one;
       })
 
-pub vector_laws : (n : ℕ) → 0 < n → Laws (Primitive n) (first n) (sheared n) (turned n) alike
-vector_laws n h = record {
-  first_point = spans→primitive n h (pos 0) (pos 1) (record { p = pos 0; q = pos 1; one = cong_refl });
-  t_point = sheared_primitive n h;
-  s_point = turned_primitive n h;
+pub vector_laws_by : (n : ℕ) → 0 < n → Combine n → Laws (Primitive n) (first n) (sheared n) (turned n) alike
+vector_laws_by n h all = record {
+  first_point = all.from_spans (pos 0) (pos 1) (record { p = pos 0; q = pos 1; one = cong_refl });
+  t_point = sheared_primitive_by n all;
+  s_point = turned_primitive_by n all;
   four_s = λ v p. four_s (lower_pictures n h) (below v) (whole n h v p);
   three_st = λ v p. three_st (lower_pictures n h) (below v) (whole n h v p);
   agree_same = λ v w e. let p = and_parts _ _ e in same (eqb-true v.c w.c p.0) (eqb-true v.d w.d p.1);
