@@ -3,11 +3,10 @@ use Rattle.std.proofs.Common.{◌≡◌, ℕ, ◌<◌, Bool, true, false, eqb, L
 use lib.IntN.{neg_ℤ-neg_ℤ, +ℤ_idr}
 use Rattle.std.specs.Int.{int_rem_euclid}
 use Rattle.levels.specs.Levels.{IsLevel}
-use Rattle.levels.specs.laws.Lines.{line_laws}
 use Rattle.levels.specs.laws.Matrices.{matrix_laws}
-use Rattle.levels.specs.laws.Vectors.{vector_laws}
 use Rattle.levels.proofs.LineMembers.{lines_at}
 use Rattle.levels.proofs.MatrixMembers.{matrices_at}
+use Rattle.levels.proofs.Primitives.{line_laws, vector_laws}
 use Rattle.levels.proofs.VectorMembers.{vectors_at}
 use Rattle.modular.specs.Matrix.{M2, det}
 use Rattle.modular.specs.Mirror.{mirrored}
