@@ -32,7 +32,6 @@ use Rattle.table.specs.declared.counts.Filled.{Filled}
 use Rattle.table.specs.declared.link.Link.{Link}
 use Rattle.table.specs.declared.refusal.Refusal.{Refusal}
 use Rattle.table.specs.declared.refusal.Refusal.TheVariants.{Memory, Unfilled, Unsound, NoSuch}
-use Rattle.table.specs.declared.shape.Shape.{Shape}
 use Rattle.table.specs.Cosets.{CosetLaw}
 use Rattle.table.specs.Facts.{Growth, Kept, Aimed, Declined, Finished, Led}
 use Rattle.table.specs.Questions.{characters, Spelled, placing, spelling, generating, measuring}
@@ -42,7 +41,7 @@ use Rattle.table.specs.Generators.{generators}
 use Rattle.table.specs.Links.{next}
 use Rattle.table.specs.Matrices.{MatrixLaw}
 use Rattle.table.specs.Order.{Least}
-use Rattle.table.specs.Shapes.{shape, CuspLaw}
+use Rattle.table.specs.Shapes.{Shape, shape, CuspLaw}
 use Rattle.table.specs.SoundTest.{sound}
 use Rattle.table.specs.Widths.{IsWidth}
 

@@ -3,13 +3,14 @@
 --     is_low links r        row r is the lowest of its T-cycle
 --     cusps links          the number of T-cycles, each counted at its lowest row
 --     e2 links, e3 links   the rows fixed by S, and those fixed by S and then T
+--     Shape                these numbers, as the struct of that name holds them
 --     shape links          all these, with genus12 = 12 + rows − 3·e2 − 4·e3 − 6·cusps
 --     widths links n       the widths of the T-cycles whose lowest row is below n, added up
 --     CuspLaw links        the cusps are the T-cycles: each row is in exactly one, and the widths add up to the rows
 use Rattle.std.specs.Prelude.{◌≡◌, ℕ, zero, suc, ◌+◌, ◌*◌, ◌<◌, ◌≤◌, Bool, true, false, cond, ◌↔◌, List, length, pos, ◌-ℤ◌, ◌==◌, nat_eq, nat_lt}
 use Rattle.modular.specs.declared.letter.Letter.TheVariants.{T, S}
 use Rattle.table.specs.declared.link.Link.{Link}
-use Rattle.table.specs.declared.shape.Shape.{Shape}
+use Rattle.table.specs.declared.shape.Shape as struct
 use Rattle.table.specs.Links.{next}
 use Rattle.table.specs.Widths.{times, width}
 
@@ -33,6 +34,9 @@ e2 links = counted (λ r. nat_eq (next links S r) r) (length links)
 
 abbrev pub e3 : List Link → ℕ
 e3 links = counted (λ r. nat_eq (next links T (next links S r)) r) (length links)
+
+abbrev pub Shape : Type 0
+Shape = struct.Shape
 
 abbrev pub shape : List Link → Shape
 shape links = record {

@@ -30,8 +30,7 @@ use Rattle.table.specs.Links.{empty}
 use Rattle.table.specs.Placing.{placed}
 use Rattle.table.specs.Questions.{characters}
 use Rattle.table.specs.Refusals.{number_of}
-use Rattle.table.specs.declared.shape.Shape.{Shape}
-use Rattle.table.specs.Shapes.{shape}
+use Rattle.table.specs.Shapes.{Shape, shape}
 use Rattle.table.specs.SoundTest.{sound}
 
 abbrev pub grown_by : {R : Type 0} → R → (R → R) → (R → R) → (R → R → Bool) → ℕ → ℕ → Growing R
