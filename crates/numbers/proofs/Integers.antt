@@ -34,8 +34,8 @@ one_mul a = omega (arith, ints)
 pub mul_one : (a : ℤ) → a *ℤ pos 1 ≡ a
 mul_one a = omega (arith, ints)
 
-pub zero-mul : (a : ℤ) → pos 0 *ℤ a ≡ pos 0
-zero-mul a = omega (arith, ints)
+pub zero_mul : (a : ℤ) → pos 0 *ℤ a ≡ pos 0
+zero_mul a = omega (arith, ints)
 
 pub mul_zero : (a : ℤ) → a *ℤ pos 0 ≡ pos 0
 mul_zero a = omega (arith, ints)

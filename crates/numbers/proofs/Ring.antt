@@ -3,7 +3,7 @@
 use Rattle.std.proofs.Common.{◌≡◌, ℕ, zero, suc, Bool, true, false, ◌&&◌, T, eqb, leb, List, [], ◌∷◌, get_or, ℤ, pos, negsuc, ◌+ℤ◌, ◌*ℤ◌, neg_ℤ, sym, refl, ap, ◌∙◌, subst, arith, eqb→eq}
 use lib.IntN.{*ℤ_comm, +ℤ_assoc}
 use borrow.Author.Differences.{sum_is_lem, neg_is, same_in, same_out}
-use Rattle.numbers.proofs.Integers.{mul_add, add_mul, mul_assoc, neg_mul, one_mul, mul_one, zero-mul, mul_zero}
+use Rattle.numbers.proofs.Integers.{mul_add, add_mul, mul_assoc, neg_mul, one_mul, mul_one, zero_mul, mul_zero}
 
 infix 4 ◌≐◌
 infixl 6 ◌⊕◌
@@ -143,7 +143,7 @@ module _ (ρ : ℕ → ℤ) where
       omega (linear, mul_add (c *ℤ product l) (d *ℤ product m) (total q))
 
   times_is : (p q : Poly) → total (times p q) ≡ total p *ℤ total q
-  times_is none q = sym (zero-mul (total q))
+  times_is none q = sym (zero_mul (total q))
   times_is (term c l p) q = gather_is c l q (times p q) ∙ ap (λ x. c *ℤ product l *ℤ total q +ℤ x) (times_is p q) ∙ sym (add_mul (c *ℤ product l) (total p) (total q))
 
   normal_is : (e : Expr) → total (normal e) ≡ value ρ e
@@ -162,7 +162,7 @@ module _ (ρ : ℕ → ℤ) where
   vanishes→zero none t = refl
   vanishes→zero (term c l p) t =
       let b = both (is_zero c) (vanishes p) t in
-      let z = ap (λ x. x *ℤ product l) (is_zero→eq c b.0) ∙ zero-mul (product l) in
+      let z = ap (λ x. x *ℤ product l) (is_zero→eq c b.0) ∙ zero_mul (product l) in
       omega (linear, vanishes→zero p b.1)
 
   -- two expressions whose difference has zero coefficients alone have one value
