@@ -1,9 +1,10 @@
 // The two letters of a word.
 ghost use Rattle.std.specs.Prelude.{◌≡◌};
 ghost use Rattle.modular.specs.Matrix.{rows};
-ghost use Rattle.modular.specs.Words.{letter_of, of_letter};
+ghost use Rattle.modular.specs.Words.{Names, name_of, of_letter};
 
 use crate::matrix::Matrix;
+use thiserror::Error;
 
 // T is 1 1 0 1 and S is 0 -1 1 0. T comes before S in the alphabet.
 #[derive(Clone, Copy, Debug, PartialEq, Eq, PartialOrd, Ord)]
@@ -21,15 +22,36 @@ impl Letter {
             Letter::S => [[0, -1], [1, 0]],
         }
     }
+}
 
-    // The letter that a character names, if any.
-    pub fn read(c: char) -> Option<Letter>
-        ensures { result ≡ letter_of c }
-    {
+// A character that names no letter.
+#[derive(Clone, Copy, Debug, PartialEq, Eq, Error)]
+#[error("{0} is neither T nor S")]
+pub struct NotALetter(pub char);
+
+// The letter that a character names.
+impl TryFrom<char> for Letter {
+    type Error = NotALetter;
+
+    ghost try_from_gives = { Names };
+
+    fn try_from(c: char) -> Result<Letter, NotALetter> {
         match c {
-            'T' => Some(Letter::T),
-            'S' => Some(Letter::S),
-            _ => None,
+            'T' => Ok(Letter::T),
+            'S' => Ok(Letter::S),
+            _ => Err(NotALetter(c)),
+        }
+    }
+}
+
+// The byte that spells a letter in a text.
+impl From<Letter> for u8 {
+    ghost from_gives = { λ letter byte. byte ≡ name_of letter };
+
+    fn from(letter: Letter) -> u8 {
+        match letter {
+            Letter::T => b'T',
+            Letter::S => b'S',
         }
     }
 }

@@ -9,11 +9,5 @@ ghost use Rattle.std.specs.Option.{MatchOption};
 pub fn divide(a: i64, c: i64) -> Option<(i64, i64)>
     ensures { MatchOption result (NoQuotient a c) (λ p. Quotient a c p.0 p.1) }
 {
-    if c == 0 {
-        return None;
-    }
-    if a == i64::MIN && c == -1 {
-        return None;
-    }
-    Some((a / c, a % c))
+    Some((a.checked_div(c)?, a.checked_rem(c)?))
 }
