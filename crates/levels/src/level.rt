@@ -4,9 +4,12 @@ ghost use Rattle.levels.specs.Levels.{IsLevel, Declined, number};
 ghost use Rattle.numbers.specs.Gcd.{gcd};
 ghost use Rattle.numbers.specs.Residues.{residue};
 
+use thiserror::Error;
+
 // Why a level action is not made.
-#[derive(Clone, Copy, Debug, PartialEq, Eq)]
+#[derive(Clone, Copy, Debug, PartialEq, Eq, Error)]
 pub enum Refusal {
+    #[error("the level is not 1 to 200")]
     OutOfRange,
 }
 
@@ -35,7 +38,7 @@ impl Level {
     pub(crate) fn new(level: u32) -> Result<Level, Refusal>
         ensures { MatchResult result (λ l. l.n ≡ level) (Declined level) }
     {
-        if 0 < level && level <= Self::MAX {
+        if (1..=Self::MAX).contains(&level) {
             Ok(Level { n: level as u8 })
         } else {
             Err(Refusal::OutOfRange)
@@ -67,7 +70,7 @@ impl Level {
     pub(crate) fn sum(self, x: u8, y: u8) -> u8
         ensures { result ≡ residue self.n (pos x +ℤ pos y) }
     {
-        ((x as u16 + y as u16) % self.n as u16) as u8
+        self.reduced(u16::from(x) + u16::from(y))
     }
 
     // The residue of −x.
@@ -81,7 +84,14 @@ impl Level {
     pub(crate) fn product(self, x: u8, y: u8) -> u8
         ensures { result ≡ residue self.n (pos x *ℤ pos y) }
     {
-        ((x as u16 * y as u16) % self.n as u16) as u8
+        self.reduced(u16::from(x) * u16::from(y))
+    }
+
+    // The residue of a sum or a product of two entries.
+    fn reduced(self, x: u16) -> u8
+        ensures { result ≡ residue self.n (pos x) }
+    {
+        (x % u16::from(self.n)) as u8
     }
 }
 

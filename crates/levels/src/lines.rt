@@ -1,6 +1,6 @@
 // Lines modulo a level, on which the modular group acts from the right.
 ghost use Rattle.std.specs.Prelude.{◌≡◌};
-ghost use Rattle.levels.specs.Lines.{IsLine, scaled, earlier, better, least, sheared, turned};
+ghost use Rattle.levels.specs.Lines.{IsLine, scaled, better, least, sheared, turned};
 ghost use Rattle.levels.specs.Vectors.{first, alike};
 ghost use Rattle.levels.specs.laws.Lines.{line_laws_by};
 ghost use Rattle.levels.specs.laws.Vectors.{combine};
@@ -27,20 +27,13 @@ fn scaled(level: Level, u: u8, v: Vector) -> Vector
     }
 }
 
-// Whether v comes before w: by c, and then by d.
-fn earlier(v: Vector, w: Vector) -> bool
-    ensures { result ≡ earlier v w }
-{
-    v.c < w.c || v.c == w.c && v.d < w.d
-}
-
 // The multiple of v by u if u is coprime to the level and that multiple comes before `best`, and else `best`.
 // Most multiples come later, so this is tested first.
 fn better(level: Level, u: u8, v: Vector, best: Vector) -> Vector
     ensures { result ≡ better level.n u v best }
 {
     let multiple = scaled(level, u, v);
-    if earlier(multiple, best) && level.coprime(u) {
+    if multiple < best && level.coprime(u) {
         multiple
     } else {
         best

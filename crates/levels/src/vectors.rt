@@ -7,8 +7,8 @@ use modular::action::Action;
 
 mod maker;
 
-// The row c, d.
-#[derive(Clone, Copy, Debug, PartialEq, Eq)]
+// The row c, d. Vectors are ordered by c, and then by d.
+#[derive(Clone, Copy, Debug, PartialEq, Eq, PartialOrd, Ord)]
 pub struct Vector {
     pub c: u8,
     pub d: u8,

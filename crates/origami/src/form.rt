@@ -1,36 +1,29 @@
 // The least form of a gluing.
 ghost use Rattle.std.specs.Prelude.{◌≡◌};
-ghost use Rattle.origami.specs.Forms.{earlier, better, least};
-ghost use Rattle.origami.specs.Gluings.{Inside};
+ghost use Rattle.origami.specs.Forms.{better, least};
 ghost use Rattle.origami.specs.Origamis.{form};
 
-use crate::gluing::Gluing;
-use crate::numbering::reading;
+use crate::gluing::{Enclosed, Gluing};
 
-// Whether a comes before b: by the first entry that differs, those of right before those of up.
-fn earlier(a: Gluing, b: Gluing) -> bool
-    ensures { result ≡ earlier a b }
-{
-    a.right < b.right || a.right == b.right && a.up < b.up
-}
-
-// The earlier of the two.
+// The earlier of two gluings of one degree.
 fn better(a: Gluing, b: Gluing) -> Gluing
+    requires { a.degree ≡ b.degree }
     ensures { result ≡ better a b }
 {
-    if earlier(a, b) { a } else { b }
+    if a < b { a } else { b }
 }
 
-// The earliest of the readings from all squares.
-pub(crate) fn least(g: Gluing) -> Gluing
-    requires { Inside g }
-    ensures { result ≡ least g }
-{
-    let mut best = reading(g, 0);
-    for first in 1..g.degree {
-        best = better(reading(g, first), best);
+impl Enclosed {
+    // The earliest of the readings from all squares.
+    pub(crate) fn least(self) -> Gluing
+        ensures { result ≡ least self.gluing }
+    {
+        let mut best = self.reading(0);
+        for first in 1..self.gluing.degree {
+            best = better(self.reading(first), best);
+        }
+        best
     }
-    best
 }
 
 impl Gluing {
@@ -38,6 +31,9 @@ impl Gluing {
     pub fn least_form(self) -> Gluing
         ensures { result ≡ form self }
     {
-        if self.is_inside() { least(self) } else { self }
+        match self.enclosed() {
+            Some(squares) => squares.least(),
+            None => self,
+        }
     }
 }

@@ -1,10 +1,12 @@
 // Gluings of squares, and the two steps on them.
-ghost use Rattle.std.specs.Prelude.{◌≡◌, ◌<◌, ◌&&◌, T, nat_lt};
+ghost use Rattle.std.specs.Prelude.{◌≡◌, ◌<◌, ◌&&◌, true, false, nat_lt, MatchOption};
 ghost use Rattle.origami.specs.Gluings.{right_of, up_of, Inside, sheared, turned};
 ghost use Rattle.origami.specs.Origamis.{inside};
 
 // The right and the upper neighbour of each square. Squares count from 0 here, and behind the degree all entries are 0.
-#[derive(Clone, Copy, Debug, PartialEq, Eq)]
+// Arrays of one size with a degree, since a record is a plain value that can be copied. Ordered by the first entry that
+// differs: the degree, then those of right, then those of up.
+#[derive(Clone, Copy, Debug, PartialEq, Eq, PartialOrd, Ord)]
 pub struct Gluing {
     pub degree: u8,
     pub right: [u8; 16],
@@ -22,53 +24,60 @@ impl Gluing {
         self.right[square] < self.degree && self.up[square] < self.degree
     }
 
-    // Whether there are 1 to 16 squares, and all neighbours are squares.
-    pub(crate) fn is_inside(self) -> bool
-        ensures value { result ≡ inside self }
-        ensures facts { T result → Inside self }
+    // The same gluing, if there are 1 to 16 squares, and all neighbours are squares.
+    pub(crate) fn enclosed(self) -> Option<Enclosed>
+        ensures { MatchOption result (inside self ≡ false) (λ e. (inside self ≡ true) × (e.gluing ≡ self)) }
     {
         if self.degree == 0 || self.degree > Self::MAX_DEGREE {
-            return false;
+            return None;
         }
         for square in 0..self.degree as usize {
             if !self.has_neighbours(square) {
-                return false;
+                return None;
             }
         }
-        true
+        Some(Enclosed { gluing: self })
     }
+}
 
+// A gluing of 1 to 16 squares that no neighbour leaves.
+#[derive(Clone, Copy)]
+pub(crate) struct Enclosed {
+    pub(crate) gluing: Gluing,
+    ghost ok: { Inside gluing },
+}
+
+impl Enclosed {
     // The T step: right stays, and up goes first right and then up.
-    pub(crate) fn sheared(self) -> Gluing
-        requires { Inside self }
-        ensures value { result ≡ sheared self }
-        ensures inside { Inside result }
+    pub(crate) fn sheared(self) -> Enclosed
+        ensures { result.gluing ≡ sheared self.gluing }
     {
+        let g = self.gluing;
+        // A loop with its index, here and below: array::from_fn was tried, and its clause forgets what the closure captured.
         let mut up = [0; 16];
-        for i in 0..self.degree as usize {
-            up[i] = self.up[self.right[i] as usize];
+        for i in 0..g.degree as usize {
+            up[i] = g.up[g.right[i] as usize];
         }
-        Gluing {
-            degree: self.degree,
-            right: self.right,
-            up,
+        Enclosed {
+            gluing: Gluing { up, ..g },
         }
     }
 
     // The S step: up becomes right, and right backwards becomes up.
-    pub(crate) fn turned(self) -> Gluing
-        requires { Inside self }
-        ensures value { result ≡ turned self }
-        ensures inside { Inside result }
+    pub(crate) fn turned(self) -> Enclosed
+        ensures { result.gluing ≡ turned self.gluing }
     {
+        let g = self.gluing;
         let mut up = [0; 16];
-        for i in 0..self.degree {
-            up[self.right[i as usize] as usize] = i;
+        for i in 0..g.degree {
+            up[g.right[i as usize] as usize] = i;
         }
-        Gluing {
-            degree: self.degree,
-            right: self.up,
-            up,
+        Enclosed {
+            gluing: Gluing {
+                right: g.up,
+                up,
+                ..g
+            },
         }
     }
 }

@@ -4,8 +4,7 @@ ghost use Rattle.origami.specs.Gluings.{padded};
 ghost use Rattle.origami.specs.Listings.{Lists, FitRight, DeclinedRight, Accepted, Declined, target, listed};
 ghost use Rattle.origami.specs.declared.refusal.Refusal.TheVariants.{NotPermutation};
 
-use crate::gluing::Gluing;
-use crate::numbering::is_whole;
+use crate::gluing::{Enclosed, Gluing};
 use crate::refusal::Refusal;
 
 // The squares of a list, counted from 0, if it lists 1 to `degree` once each.
@@ -18,8 +17,8 @@ fn permutation(list: &[u32], degree: usize) -> Result<[u8; 16], Refusal>
     }
     let mut squares = [0; 16];
     let mut seen = [false; 16];
-    for i in 0..degree {
-        let n = list[i] as usize;
+    for (i, n) in list.iter().enumerate() {
+        let n = *n as usize;
         if n == 0 || n > degree || seen[n - 1] {
             return Err(Refusal::NotPermutation);
         }
@@ -49,7 +48,8 @@ pub(crate) fn listed(right: &[u32], up: &[u32]) -> Result<Gluing, Refusal>
         degree: right.len() as u8,
         up: permutation(up, right.len())?,
     };
-    if !is_whole(gluing) {
+    let squares = Enclosed { gluing };
+    if !squares.is_whole() {
         return Err(Refusal::NotReached);
     }
     Ok(gluing)

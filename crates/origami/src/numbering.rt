@@ -1,31 +1,29 @@
 // Numbering the squares of a gluing from a chosen one.
 ghost use Rattle.std.specs.Prelude.{◌≡◌, ℕ, ◌<◌, List, length, ◌==◌};
 ghost use Rattle.origami.specs.Forms.{order, reading};
-ghost use Rattle.origami.specs.Gluings.{Inside};
 ghost use Rattle.origami.specs.Numberings.{Holds, Room};
 ghost use Rattle.origami.specs.Squares.{place, added};
 
-use crate::gluing::Gluing;
+use crate::gluing::{Enclosed, Gluing};
 
 // The squares that have a number, in the order of their numbers, and the number of each.
+// Arrays with a count, since no step of an origami takes memory from the heap.
 #[derive(Clone, Copy)]
 struct Numbering {
     order: [u8; 16],
-    number: [u8; 16],
+    number: [Option<u8>; 16],
     count: u8,
 }
 
 impl Numbering {
-    // Stands for the number of a square that has none.
-    const NONE: u8 = 16;
-
     // The squares of g, numbered from `first`: at each in turn, the right and then the upper neighbour gets the next number.
-    fn new(g: Gluing, first: u8) -> Numbering
-        requires { (Inside g) × (first < g.degree) }
-        ensures { Holds first (order g first) result }
+    fn new(squares: Enclosed, first: u8) -> Numbering
+        requires { first < squares.gluing.degree }
+        ensures { Holds first (order squares.gluing first) result }
     {
-        let mut number = [Self::NONE; 16];
-        number[first as usize] = 0;
+        let g = squares.gluing;
+        let mut number = [None; 16];
+        number[first as usize] = Some(0);
         let mut n = Numbering {
             order: [first; 16],
             number,
@@ -45,9 +43,9 @@ impl Numbering {
         requires { Room self.old square }
         ensures { (x : ℕ) (xs : List ℕ) → Holds x xs self.old → Holds x (added square xs) self.new }
     {
-        if self.number[square as usize] == Self::NONE {
+        if self.number[square as usize].is_none() {
             self.order[self.count as usize] = square;
-            self.number[square as usize] = self.count;
+            self.number[square as usize] = Some(self.count);
             self.count += 1;
         }
     }
@@ -57,34 +55,32 @@ impl Numbering {
         requires { square < 16 }
         ensures { (x : ℕ) (xs : List ℕ) → Holds x xs self.now → result ≡ place square xs }
     {
-        self.number[square as usize].min(self.count)
+        self.number[square as usize].unwrap_or(self.count)
     }
 }
 
-// Whether each square gets a number from square 0.
-pub(crate) fn is_whole(g: Gluing) -> bool
-    requires { Inside g }
-    ensures { result ≡ (length (order g 0) == g.degree) }
-{
-    Numbering::new(g, 0).count == g.degree
-}
-
-// The gluing g in the numbers that its squares get from `first`.
-pub(crate) fn reading(g: Gluing, first: u8) -> Gluing
-    requires { (Inside g) × (first < g.degree) }
-    ensures { result ≡ reading g first }
-{
-    let n = Numbering::new(g, first);
-    let mut right = [0; 16];
-    let mut up = [0; 16];
-    for i in 0..g.degree as usize {
-        let square = n.order[i] as usize;
-        right[i] = n.of(g.right[square]);
-        up[i] = n.of(g.up[square]);
+impl Enclosed {
+    // Whether each square gets a number from square 0.
+    pub(crate) fn is_whole(self) -> bool
+        ensures { result ≡ (length (order self.gluing 0) == self.gluing.degree) }
+    {
+        Numbering::new(self, 0).count == self.gluing.degree
     }
-    Gluing {
-        degree: g.degree,
-        right,
-        up,
+
+    // The gluing in the numbers that its squares get from `first`.
+    pub(crate) fn reading(self, first: u8) -> Gluing
+        requires { first < self.gluing.degree }
+        ensures { result ≡ reading self.gluing first }
+    {
+        let g = self.gluing;
+        let n = Numbering::new(self, first);
+        let mut right = [0; 16];
+        let mut up = [0; 16];
+        for i in 0..g.degree as usize {
+            let square = n.order[i] as usize;
+            right[i] = n.of(g.right[square]);
+            up[i] = n.of(g.up[square]);
+        }
+        Gluing { right, up, ..g }
     }
 }

@@ -7,8 +7,7 @@ ghost use Rattle.origami.specs.Squares.{Undone};
 ghost use Rattle.origami.specs.laws.Origamis.{held_glues, origami_laws};
 ghost use Rattle.std.specs.Str.{bytes_eq};
 
-use crate::form::least;
-use crate::gluing::Gluing;
+use crate::gluing::{Enclosed, Gluing};
 use modular::action::Action;
 
 mod maker;
@@ -24,11 +23,15 @@ pub struct Origami {
     ghost whole: { length (order gluing 0) ≡ gluing.degree },
 }
 
-// Whether two gluings agree in all entries.
-fn same_neighbours(g: Gluing, k: Gluing) -> bool
-    ensures { result ≡ (bytes_eq g.right k.right && bytes_eq g.up k.up) }
-{
-    g.right == k.right && g.up == k.up
+impl Origami {
+    // The gluing, of which it is known that no neighbour leaves it.
+    pub(crate) fn enclosed(self) -> Enclosed
+        ensures { result.gluing ≡ self.gluing }
+    {
+        Enclosed {
+            gluing: self.gluing,
+        }
+    }
 }
 
 impl Action for Origami {
@@ -47,18 +50,24 @@ impl Action for Origami {
     ghost laws = { λ a. origami_laws a.gluing (held_glues a.gluing a.size a.rights a.ups a.whole) };
 
     fn first(&self) -> Gluing {
-        least(self.gluing)
+        self.enclosed().least()
     }
 
     fn t(&self, g: Gluing) -> Gluing {
-        if g.is_inside() { least(g.sheared()) } else { g }
+        match g.enclosed() {
+            Some(squares) => squares.sheared().least(),
+            None => g,
+        }
     }
 
     fn s(&self, g: Gluing) -> Gluing {
-        if g.is_inside() { least(g.turned()) } else { g }
+        match g.enclosed() {
+            Some(squares) => squares.turned().least(),
+            None => g,
+        }
     }
 
     fn same(&self, g: Gluing, k: Gluing) -> bool {
-        g.degree == k.degree && same_neighbours(g, k)
+        g == k
     }
 }

@@ -2,13 +2,15 @@
 ghost use Rattle.std.specs.Prelude.{◌≡◌};
 ghost use Rattle.origami.specs.Refusals.{number};
 
-#[derive(Clone, Copy, Debug, PartialEq, Eq)]
+use thiserror::Error;
+
+#[derive(Clone, Copy, Debug, PartialEq, Eq, Error)]
 pub enum Refusal {
-    // The number of squares is not 1 to 16.
+    #[error("the number of squares is not 1 to 16")]
     Degree,
-    // A list is not each square once.
+    #[error("a list is not each square once")]
     NotPermutation,
-    // A square is not reached from the first by going right and up.
+    #[error("a square is not reached from the first by going right and up")]
     NotReached,
 }
 

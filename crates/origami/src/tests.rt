@@ -8,12 +8,11 @@ const TURN_OF_16: [u32; 16] = [2, 3, 4, 5, 6, 7, 8, 9, 10, 11, 12, 13, 14, 15, 1
 
 const TURN_OF_17: [u32; 17] = [2, 3, 4, 5, 6, 7, 8, 9, 10, 11, 12, 13, 14, 15, 16, 17, 1];
 
-// The number of the refusal, or 0.
-fn refused(right: &[u32], up: &[u32]) -> u8 {
-    match Origami::new(right, up) {
-        Ok(_) => 0,
-        Err(e) => e.number(),
-    }
+// The number of the refusal, if there is one.
+fn refused(right: &[u32], up: &[u32]) -> Option<u8> {
+    Origami::new(right, up)
+        .err()
+        .map(|refusal| refusal.number())
 }
 
 #[test]
@@ -67,14 +66,14 @@ fn other_records_are_left_alone(rt: HostRuntime) -> Result<(), Fail> {
 
 #[test]
 fn lists_are_declined(rt: HostRuntime) {
-    assert_eq!(rt; refused(&[], &[]), 3);
-    assert_eq!(rt; refused(&TURN_OF_16, &TURN_OF_16), 0);
-    assert_eq!(rt; refused(&TURN_OF_17, &TURN_OF_17), 3);
-    assert_eq!(rt; refused(&[1, 1], &[1, 2]), 4);
-    assert_eq!(rt; refused(&[2, 1], &[1, 2, 3]), 4);
-    assert_eq!(rt; refused(&[2, 1], &[1, 3]), 4);
-    assert_eq!(rt; refused(&[2, 1], &[0, 1]), 4);
-    assert_eq!(rt; refused(&[1, 2], &[1, 2]), 5);
+    assert_eq!(rt; refused(&[], &[]), Some(3));
+    assert_eq!(rt; refused(&TURN_OF_16, &TURN_OF_16), None);
+    assert_eq!(rt; refused(&TURN_OF_17, &TURN_OF_17), Some(3));
+    assert_eq!(rt; refused(&[1, 1], &[1, 2]), Some(4));
+    assert_eq!(rt; refused(&[2, 1], &[1, 2, 3]), Some(4));
+    assert_eq!(rt; refused(&[2, 1], &[1, 3]), Some(4));
+    assert_eq!(rt; refused(&[2, 1], &[0, 1]), Some(4));
+    assert_eq!(rt; refused(&[1, 2], &[1, 2]), Some(5));
     assert!(rt; Origami::check_right(&[1, 2]).is_ok());
     assert!(rt; Origami::check_right(&[1, 1]).is_err());
 }

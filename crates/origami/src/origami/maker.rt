@@ -7,7 +7,6 @@ ghost use Rattle.origami.specs.Gluings.{Renumbered};
 ghost use Rattle.origami.specs.Listings.{Declined, FitRight, DeclinedRight};
 ghost use Rattle.origami.specs.Origamis.{IsPoint, OneForm, Made};
 
-use crate::form::least;
 use crate::gluing::Gluing;
 use crate::listing::{listed, listed_right};
 use crate::origami::Origami;
@@ -46,7 +45,7 @@ impl Origami {
         ensures renumbered { Renumbered self.now.gluing result }
         ensures point { IsPoint result }
     {
-        least(self.gluing)
+        self.enclosed().least()
     }
 
     // Whether a renumbering of the squares turns one gluing into the other.
@@ -54,6 +53,6 @@ impl Origami {
         ensures exactly { T result ↔ Renumbered self.now.gluing other.now.gluing }
         ensures one_form { OneForm self.now.gluing other.now.gluing }
     {
-        self.same(least(self.gluing), least(other.gluing))
+        self.least_form() == other.least_form()
     }
 }

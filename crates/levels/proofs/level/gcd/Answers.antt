@@ -5,6 +5,3 @@ use Rattle.levels.proofs.level.gcd.Goals as goal
 
 pub loop-b-preserved : goal.loop-b-preserved
 loop-b-preserved c = let h : 0 < c.loop-b.b = omega arith in gcd_step c.loop-b.a c.loop-b.b h ∙ c.loop-b.invariant
-
-pub returns : goal.returns
-returns c = let z : c.loop-b.b ≡ 0 = omega arith in ap (gcd c.loop-b.a) (sym z) ∙ c.loop-b.invariant

@@ -12,13 +12,13 @@ same_gluing : (xs ys : List ℕ) {rs us : List ℕ} → rs ≡ padded (length xs
     → ◌≡◌ {A = Gluing} (record { degree = length xs; right = rs; up = us }) (listed xs ys)
 same_gluing xs ys p q = λ i. record { degree = length xs; right = p i; up = q i }
 
-pub is_whole-requires : goal.is_whole-requires
-is_whole-requires c =
+pub invariant_of-squares : goal.invariant_of-squares
+invariant_of-squares c =
     let xs = c.args.right.now in
     let ys = c.args.up.now in
     let p = c.in_ok-listed_right.ensures in
     let q = c.in_ok-permutation.ensures in
-    subst Inside (sym (same_gluing xs ys p.1 q.1)) (listed_inside xs ys p.0.0 p.0.1 q.0)
+    record { ok = subst Inside (sym (same_gluing xs ys p.1 q.1)) (listed_inside xs ys p.0.0 p.0.1 q.0) }
 
 pub returns-then-not-is_whole : goal.returns-then-not-is_whole
 returns-then-not-is_whole c =

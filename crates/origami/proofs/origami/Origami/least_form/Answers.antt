@@ -1,5 +1,5 @@
-use Rattle.std.proofs.Common.{sym, subst}
-use Rattle.origami.specs.Forms.{IsLeast}
+use Rattle.std.proofs.Common.{sym, ap, ◌∙◌, subst}
+use Rattle.origami.specs.Forms.{least, IsLeast}
 use Rattle.origami.specs.Gluings.{Renumbered}
 use Rattle.origami.specs.Origamis.{IsPoint}
 use Rattle.origami.specs.laws.Leasts.{least_is, least_renumbered}
@@ -11,9 +11,10 @@ returns c =
     let a = c.args.self.now in
     let g = a.gluing in
     let h = held_glues g a.size a.rights a.ups a.whole in
-    let e = sym c.least.ensures in
+    let is = c.least.ensures ∙ ap least c.enclosed.ensures in
+    let e = sym is in
     record {
-      value = c.least.ensures;
+      value = is;
       is_least = subst (IsLeast g) e (least_is g h.some);
       renumbered = subst (Renumbered g) e (least_renumbered g h);
       point = subst IsPoint e (least_point g h);

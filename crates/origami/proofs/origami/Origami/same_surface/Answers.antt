@@ -17,11 +17,11 @@ returns c =
     let h = held_glues a.gluing a.size a.rights a.ups a.whole in
     let j = held_glues b.gluing b.size b.rights b.ups b.whole in
     let one = one_form a.gluing b.gluing h j in
-    let same = agreed c.same.result c.least.result c.least-2.result c.same.ensures in
+    let same = agreed c.eq.result c.least_form.result c.least_form-2.result c.eq.ensures in
     record {
       exactly = (
-        λ t. one.0 (sym c.least.ensures ∙ same.0 t ∙ c.least-2.ensures),
-        λ r. same.1 (c.least.ensures ∙ one.1 r ∙ sym c.least-2.ensures),
+        λ t. one.0 (sym c.least_form.ensures.value ∙ same.0 t ∙ c.least_form-2.ensures.value),
+        λ r. same.1 (c.least_form.ensures.value ∙ one.1 r ∙ sym c.least_form-2.ensures.value),
       );
       one_form = one;
     }

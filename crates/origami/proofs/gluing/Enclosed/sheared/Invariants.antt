@@ -1,6 +1,6 @@
 use Rattle.origami.specs.Gluings.{right_of, up_of}
 use Rattle.origami.proofs.Filled.{Filled}
-use Rattle.origami.proofs.gluing.Gluing.sheared.Given as goal
+use Rattle.origami.proofs.gluing.Enclosed.sheared.Given as goal
 
 abbrev pub invariant-loop-i : goal.invariant-loop-i
-invariant-loop-i l = Filled l.i (λ k. up_of l.self (right_of l.self k)) l.up
+invariant-loop-i l = Filled l.i (λ k. up_of l.g (right_of l.g k)) l.up

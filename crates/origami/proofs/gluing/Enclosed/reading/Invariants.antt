@@ -2,7 +2,7 @@ use Rattle.origami.specs.Forms.{order}
 use Rattle.origami.specs.Gluings.{right_of, up_of}
 use Rattle.origami.specs.Squares.{renumbered}
 use Rattle.origami.proofs.Filled.{Filled}
-use Rattle.origami.proofs.numbering.reading.Given as goal
+use Rattle.origami.proofs.gluing.Enclosed.reading.Given as goal
 
 abbrev pub invariant-loop-i : goal.invariant-loop-i
 invariant-loop-i l =
