@@ -28,7 +28,7 @@ fn letters(count: usize, links: &[Link], word: &str) -> Result<u16, Refusal>
     let mut row = 0u16;
     let mut place = 0usize;
     for c in word.chars() {
-        let Some(letter) = Letter::read(c) else {
+        let Ok(letter) = Letter::try_from(c) else {
             return Err(Refusal::NotALetter(place));
         };
         let Some(next) = leads_to(count, letter, link::at(links, row)) else {

@@ -16,7 +16,7 @@ returns-in_default c =
     c.loop-c.invariant.0
     ∙ ap (λ w. walk_from c.args.count c.args.links.now w c.loop-c.place c.loop-c.row) d
     ∙ walk_none c.args.count c.args.links.now c.in-Some.c (chars (chars_rest c.next.new.self)) c.loop-c.place c.loop-c.row
-    (sym c.read.ensures ∙ c.in_default.is)
+    c.in_default.ensures.0
     )
 
 pub returns-in_default-leads_to : goal.returns-in_default-leads_to
@@ -25,9 +25,9 @@ returns-in_default-leads_to c =
     sym (
     c.loop-c.invariant.0
     ∙ ap (λ w. walk_from c.args.count c.args.links.now w c.loop-c.place c.loop-c.row) d
-    ∙ walk_empty c.args.count c.args.links.now c.in-Some.c (chars (chars_rest c.next.new.self)) c.loop-c.place c.loop-c.row c.in-Some-read.letter
-    (sym c.read.ensures ∙ c.in-Some-read.is)
-    (ap (leads_to c.args.count c.in-Some-read.letter) (sym c.at.ensures) ∙ sym c.leads_to.ensures ∙ c.in_default-leads_to.is)
+    ∙ walk_empty c.args.count c.args.links.now c.in-Some.c (chars (chars_rest c.next.new.self)) c.loop-c.place c.loop-c.row c.in-Ok.letter
+    c.in-Ok.ensures
+    (ap (leads_to c.args.count c.in-Ok.letter) (sym c.at.ensures) ∙ sym c.leads_to.ensures ∙ c.in_default-leads_to.is)
     )
 
 pub loop-c-preserved : goal.loop-c-preserved
@@ -36,9 +36,9 @@ loop-c-preserved c =
     let d = chars_past_char (chars_rest c.loop-c.c-iterator) (chars_rest c.next.new.self) c.in-Some.c c.loop-c.invariant.2 s in (
       c.loop-c.invariant.0
           ∙ ap (λ w. walk_from c.args.count c.args.links.now w c.loop-c.place c.loop-c.row) d
-          ∙ walk_on c.args.count c.args.links.now c.in-Some.c (chars (chars_rest c.next.new.self)) c.loop-c.place c.loop-c.row c.in-Some-read.letter c.in-Some-leads_to.next
-          (sym c.read.ensures ∙ c.in-Some-read.is)
-          (ap (leads_to c.args.count c.in-Some-read.letter) (sym c.at.ensures) ∙ sym c.leads_to.ensures ∙ c.in-Some-leads_to.is),
+          ∙ walk_on c.args.count c.args.links.now c.in-Some.c (chars (chars_rest c.next.new.self)) c.loop-c.place c.loop-c.row c.in-Ok.letter c.in-Some-leads_to.next
+          c.in-Ok.ensures
+          (ap (leads_to c.args.count c.in-Ok.letter) (sym c.at.ensures) ∙ sym c.leads_to.ensures ∙ c.in-Some-leads_to.is),
       omega (arith, ap length s ∙ length-append (encode c.in-Some.c) (chars_rest c.next.new.self), length-encode c.in-Some.c, (len_utf8_bounds c.in-Some.c).0, c.loop-c.invariant.1),
       IsUtf8-past_char (chars_rest c.loop-c.c-iterator) (chars_rest c.next.new.self) c.in-Some.c c.loop-c.invariant.2 s,
     )
