@@ -1,9 +1,8 @@
 // Questions to the finished table of an origami of four squares.
+use crate::memory::Memory;
+use crate::squares;
 use crate::tally::{Answer, Tally};
-use crate::{memory, squares};
-use anyhow::anyhow;
 use modular::action::Action;
-use modular::matrix::Matrix;
 use std::fmt;
 use table::finished::Finished;
 use table::shape::Shape;
@@ -34,141 +33,107 @@ impl fmt::Display for Whole {
     }
 }
 
-fn place(
-    rt: &HostRuntime,
-    tally: &mut Tally,
-    table: Finished<'_>,
-    m: Matrix,
-    expected: Answer,
-) -> anyhow::Result<()> {
-    let [[a, b], [c, d]] = m;
-    let case = format!(in rt.alloc(); "the four squares, place of {a},{b},{c},{d}")?;
-    tally.compare(rt, case.as_str(), Answer::row(table.place(m)), expected)
+fn places(tally: &mut Tally, table: Finished<'_>) -> anyhow::Result<()> {
+    for (m, expected) in [
+        ([[-3, 5], [-2, 3]], Answer::Number(0)),
+        ([[1, 1], [0, 1]], Answer::Number(1)),
+        ([[1, -1], [0, 1]], Answer::Number(3)),
+        ([[1, LARGEST], [0, 1]], Answer::Number(1)),
+        ([[1, -LARGEST], [0, 1]], Answer::Number(3)),
+        ([[1, LARGEST + 1], [0, 1]], Answer::Declined(3)),
+        ([[1, -LARGEST - 1], [0, 1]], Answer::Declined(3)),
+        ([[1, 1], [1, 1]], Answer::Declined(6)),
+    ] {
+        let [[a, b], [c, d]] = m;
+        tally.compare(
+            format_args!("the four squares, place of {a},{b},{c},{d}"),
+            Answer::told(table.place(m)),
+            expected,
+        )?;
+    }
+    Ok(())
 }
 
-fn places(rt: &HostRuntime, tally: &mut Tally, table: Finished<'_>) -> anyhow::Result<()> {
-    place(rt, tally, table, [[-3, 5], [-2, 3]], Answer::Number(0))?;
-    place(rt, tally, table, [[1, 1], [0, 1]], Answer::Number(1))?;
-    place(rt, tally, table, [[1, -1], [0, 1]], Answer::Number(3))?;
-    place(rt, tally, table, [[1, LARGEST], [0, 1]], Answer::Number(1))?;
-    place(rt, tally, table, [[1, -LARGEST], [0, 1]], Answer::Number(3))?;
-    place(
-        rt,
-        tally,
-        table,
-        [[1, LARGEST + 1], [0, 1]],
-        Answer::Declined(3),
-    )?;
-    place(
-        rt,
-        tally,
-        table,
-        [[1, -LARGEST - 1], [0, 1]],
-        Answer::Declined(3),
-    )?;
-    place(rt, tally, table, [[1, 1], [1, 1]], Answer::Declined(6))
+fn follows(tally: &mut Tally, table: Finished<'_>) -> anyhow::Result<()> {
+    // A word of letters T goes round a cycle of three rows.
+    for (letters, expected) in [
+        (0, Answer::Number(0)),
+        (1000, Answer::Number(1)),
+        (1001, Answer::Declined(14)),
+    ] {
+        let word = "T".repeat(tally.rt.alloc(), letters)?;
+        tally.compare(
+            format_args!("the four squares, follow of {letters} letters T"),
+            Answer::told(table.follow(&word)),
+            expected,
+        )?;
+    }
+    for (word, expected) in [
+        ("TTST", Answer::Number(8)),
+        ("TSxT", Answer::DeclinedAt(12, 2)),
+    ] {
+        tally.compare(
+            format_args!("the four squares, follow of {word}"),
+            Answer::told(table.follow(word)),
+            expected,
+        )?;
+    }
+    Ok(())
 }
 
-// A word of so many letters T goes round a cycle of three rows.
-fn follow_letters(
-    rt: &HostRuntime,
-    tally: &mut Tally,
-    table: Finished<'_>,
-    letters: usize,
-    expected: Answer,
-) -> anyhow::Result<()> {
-    let case = format!(in rt.alloc(); "the four squares, follow of {letters} letters T")?;
-    let word = memory::letters(rt.alloc(), letters)?;
-    let got = Answer::row(table.follow(word.as_str()));
-    tally.compare(rt, case.as_str(), got, expected)
+fn spells(tally: &mut Tally, table: Finished<'_>) -> anyhow::Result<()> {
+    for (row, bytes, expected) in [
+        (0, 0, Answer::Number(0)),
+        (8, 4, Answer::Number(4)),
+        (8, 3, Answer::Declined(14)),
+        (9, 4, Answer::Declined(15)),
+    ] {
+        let mut out = vec![in tally.rt.alloc(); 0u8; bytes]?;
+        tally.compare(
+            format_args!("the four squares, spell of row {row} into {bytes} bytes"),
+            Answer::told(table.spell(row, &mut out)),
+            expected,
+        )?;
+    }
+    Ok(())
 }
 
-fn follows(rt: &HostRuntime, tally: &mut Tally, table: Finished<'_>) -> anyhow::Result<()> {
-    follow_letters(rt, tally, table, 0, Answer::Number(0))?;
-    follow_letters(rt, tally, table, 1000, Answer::Number(1))?;
-    follow_letters(rt, tally, table, 1001, Answer::Declined(14))?;
-    let got = Answer::row(table.follow("TTST"));
-    tally.compare(
-        rt,
-        "the four squares, follow of TTST",
-        got,
-        Answer::Number(8),
-    )?;
-    let got = Answer::row(table.follow("TSxT"));
-    tally.compare(
-        rt,
-        "the four squares, follow of TSxT",
-        got,
-        Answer::DeclinedAt(12, 2),
-    )
+fn generators(tally: &mut Tally, table: Finished<'_>) -> anyhow::Result<()> {
+    let largest = LARGEST as u64;
+    for (number, limit, expected) in [
+        (9, largest, Answer::Accepted),
+        (10, largest, Answer::Declined(15)),
+        (1, 0, Answer::Declined(3)),
+        (1, largest + 1, Answer::Declined(3)),
+        (1, 1, Answer::Declined(16)),
+        (1, 3, Answer::Accepted),
+    ] {
+        tally.compare(
+            format_args!("the four squares, generator {number} with limit {limit}"),
+            Answer::accepted(table.generator(number, limit)),
+            expected,
+        )?;
+    }
+    Ok(())
 }
 
-// Spells a row into so many bytes.
-fn spell(
-    rt: &HostRuntime,
-    tally: &mut Tally,
-    table: Finished<'_>,
-    row: u16,
-    bytes: usize,
-    expected: Answer,
-) -> anyhow::Result<()> {
-    let case = format!(in rt.alloc(); "the four squares, spell of row {row} into {bytes} bytes")?;
-    let mut out = memory::copies(rt.alloc(), 0u8, bytes)?;
-    let got = Answer::number(table.spell(row, &mut out));
-    tally.compare(rt, case.as_str(), got, expected)
+fn widths(tally: &mut Tally, table: Finished<'_>) -> anyhow::Result<()> {
+    for (row, expected) in [
+        (0, Answer::Number(3)),
+        (2, Answer::Number(2)),
+        (4, Answer::Number(4)),
+        (9, Answer::Declined(15)),
+    ] {
+        tally.compare(
+            format_args!("the four squares, width of row {row}"),
+            Answer::told(table.width(row)),
+            expected,
+        )?;
+    }
+    Ok(())
 }
 
-fn spells(rt: &HostRuntime, tally: &mut Tally, table: Finished<'_>) -> anyhow::Result<()> {
-    spell(rt, tally, table, 0, 0, Answer::Number(0))?;
-    spell(rt, tally, table, 8, 4, Answer::Number(4))?;
-    spell(rt, tally, table, 8, 3, Answer::Declined(14))?;
-    spell(rt, tally, table, 9, 4, Answer::Declined(15))
-}
-
-fn generator(
-    rt: &HostRuntime,
-    tally: &mut Tally,
-    table: Finished<'_>,
-    number: usize,
-    limit: u64,
-    expected: Answer,
-) -> anyhow::Result<()> {
-    let case = format!(in rt.alloc(); "the four squares, generator {number} with limit {limit}")?;
-    let got = Answer::of(table.generator(number, limit));
-    tally.compare(rt, case.as_str(), got, expected)
-}
-
-fn generators(rt: &HostRuntime, tally: &mut Tally, table: Finished<'_>) -> anyhow::Result<()> {
-    let limit = LARGEST as u64;
-    generator(rt, tally, table, 9, limit, Answer::Accepted)?;
-    generator(rt, tally, table, 10, limit, Answer::Declined(15))?;
-    generator(rt, tally, table, 1, 0, Answer::Declined(3))?;
-    generator(rt, tally, table, 1, limit + 1, Answer::Declined(3))?;
-    generator(rt, tally, table, 1, 1, Answer::Declined(16))?;
-    generator(rt, tally, table, 1, 3, Answer::Accepted)
-}
-
-fn width(
-    rt: &HostRuntime,
-    tally: &mut Tally,
-    table: Finished<'_>,
-    row: u16,
-    expected: Answer,
-) -> anyhow::Result<()> {
-    let case = format!(in rt.alloc(); "the four squares, width of row {row}")?;
-    tally.compare(
-        rt,
-        case.as_str(),
-        Answer::number(table.width(row)),
-        expected,
-    )
-}
-
-fn shapes(rt: &HostRuntime, tally: &mut Tally, table: Finished<'_>) -> anyhow::Result<()> {
-    width(rt, tally, table, 0, Answer::Number(3))?;
-    width(rt, tally, table, 2, Answer::Number(2))?;
-    width(rt, tally, table, 4, Answer::Number(4))?;
-    width(rt, tally, table, 9, Answer::Declined(15))?;
+fn shape(tally: &mut Tally, table: Finished<'_>) -> anyhow::Result<()> {
     let expected = Whole(Shape {
         rows: 9,
         cusps: 3,
@@ -176,29 +141,21 @@ fn shapes(rt: &HostRuntime, tally: &mut Tally, table: Finished<'_>) -> anyhow::R
         e3: 0,
         genus12: 0,
     });
-    tally.compare(
-        rt,
-        "the four squares, shape",
-        Whole(table.shape()),
-        expected,
-    )
+    tally.compare("the four squares, shape", Whole(table.shape()), expected)
 }
 
 // Finishes the table of an action, and asks it.
-fn ask<A: Action + Drop>(rt: &HostRuntime, tally: &mut Tally, action: A) -> anyhow::Result<()> {
-    let mut rows = memory::copies(rt.alloc(), action.first(), ROOM)?;
-    let mut links = memory::no_links(rt.alloc(), ROOM)?;
-    let table = memory::filled(action, &mut rows, &mut links)?;
-    let Ok(finished) = table.close(&rows, &links) else {
-        return Err(anyhow!("the table needs more rows"));
-    };
-    places(rt, tally, finished)?;
-    follows(rt, tally, finished)?;
-    spells(rt, tally, finished)?;
-    generators(rt, tally, finished)?;
-    shapes(rt, tally, finished)
+fn ask<A: Action + Drop>(tally: &mut Tally, action: A) -> anyhow::Result<()> {
+    let mut memory = Memory::new(tally.rt.alloc(), &action, ROOM, ROOM)?;
+    let finished = memory.finished(action)?;
+    places(tally, finished)?;
+    follows(tally, finished)?;
+    spells(tally, finished)?;
+    generators(tally, finished)?;
+    widths(tally, finished)?;
+    shape(tally, finished)
 }
 
-pub fn run(rt: &HostRuntime, tally: &mut Tally) -> anyhow::Result<()> {
-    ask(rt, tally, squares::four()?)
+pub fn run(tally: &mut Tally) -> anyhow::Result<()> {
+    ask(tally, squares::four()?)
 }

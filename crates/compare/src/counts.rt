@@ -1,7 +1,6 @@
 // How many rows tables have.
-use crate::memory;
+use crate::memory::Memory;
 use crate::tally::{Answer, Tally};
-use anyhow::anyhow;
 use levels::lines::Lines;
 use levels::matrices::Matrices;
 use levels::vectors::Vectors;
@@ -13,70 +12,28 @@ const ROOM: usize = 400;
 
 // Compares the rows of the table of an action.
 pub fn rows<A: Action + Drop>(
-    rt: &HostRuntime,
     tally: &mut Tally,
     name: &str,
     action: A,
     expected: usize,
 ) -> anyhow::Result<()> {
-    let mut rows = memory::copies(rt.alloc(), action.first(), ROOM)?;
-    let mut links = memory::no_links(rt.alloc(), ROOM)?;
-    let table = memory::filled(action, &mut rows, &mut links)?;
-    let Ok(finished) = table.close(&rows, &links) else {
-        return Err(anyhow!("the table needs more rows"));
-    };
-    let case = format!(in rt.alloc(); "rows of {name}")?;
-    let got = Answer::Number(finished.rows());
-    tally.compare(rt, case.as_str(), got, Answer::Number(expected))
+    let mut memory = Memory::new(tally.rt.alloc(), &action, ROOM, ROOM)?;
+    let rows = memory.finished(action)?.rows();
+    tally.compare(
+        format_args!("rows of {name}"),
+        Answer::from(rows),
+        Answer::Number(expected),
+    )
 }
 
-fn lines(rt: &HostRuntime, tally: &mut Tally, level: u32, expected: usize) -> anyhow::Result<()> {
-    let Ok(action) = Lines::new(level) else {
-        return Err(anyhow!("no such level"));
-    };
-    let name = format!(in rt.alloc(); "lines {level}")?;
-    rows(rt, tally, name.as_str(), action, expected)
-}
-
-fn vectors(rt: &HostRuntime, tally: &mut Tally, level: u32, expected: usize) -> anyhow::Result<()> {
-    let Ok(action) = Vectors::new(level) else {
-        return Err(anyhow!("no such level"));
-    };
-    let name = format!(in rt.alloc(); "vectors {level}")?;
-    rows(rt, tally, name.as_str(), action, expected)
-}
-
-fn matrices(
-    rt: &HostRuntime,
-    tally: &mut Tally,
-    level: u32,
-    expected: usize,
-) -> anyhow::Result<()> {
-    let Ok(action) = Matrices::new(level) else {
-        return Err(anyhow!("no such level"));
-    };
-    let name = format!(in rt.alloc(); "matrices {level}")?;
-    rows(rt, tally, name.as_str(), action, expected)
-}
-
-fn pair(rt: &HostRuntime, tally: &mut Tally) -> anyhow::Result<()> {
-    let Ok(two) = Lines::new(2) else {
-        return Err(anyhow!("no such level"));
-    };
-    let Ok(three) = Lines::new(3) else {
-        return Err(anyhow!("no such level"));
-    };
-    let both = Pair::new(two, three);
-    rows(rt, tally, "the pair of lines 2 and lines 3", both, 12)
-}
-
-pub fn run(rt: &HostRuntime, tally: &mut Tally) -> anyhow::Result<()> {
-    lines(rt, tally, 1, 1)?;
-    lines(rt, tally, 6, 12)?;
-    vectors(rt, tally, 3, 8)?;
-    matrices(rt, tally, 3, 24)?;
-    pair(rt, tally)?;
-    lines(rt, tally, 200, 360)?;
-    vectors(rt, tally, 12, 96)?;
-    matrices(rt, tally, 4, 48)
+pub fn run(tally: &mut Tally) -> anyhow::Result<()> {
+    rows(tally, "lines 1", Lines::new(1)?, 1)?;
+    rows(tally, "lines 6", Lines::new(6)?, 12)?;
+    rows(tally, "vectors 3", Vectors::new(3)?, 8)?;
+    rows(tally, "matrices 3", Matrices::new(3)?, 24)?;
+    let both = Pair::new(Lines::new(2)?, Lines::new(3)?);
+    rows(tally, "the pair of lines 2 and lines 3", both, 12)?;
+    rows(tally, "lines 200", Lines::new(200)?, 360)?;
+    rows(tally, "vectors 12", Vectors::new(12)?, 96)?;
+    rows(tally, "matrices 4", Matrices::new(4)?, 48)
 }

@@ -16,14 +16,14 @@ mod storing;
 mod tally;
 
 fn main(rt: HostRuntime) -> anyhow::Result<()> {
-    let mut tally = Tally::new();
-    counts::run(&rt, &mut tally)?;
-    making::run(&rt, &mut tally)?;
-    lending::run(&rt, &mut tally)?;
-    filling::run(&rt, &mut tally)?;
-    asking::run(&rt, &mut tally)?;
-    storing::run(&rt, &mut tally)?;
-    layers::run(&rt, &mut tally)?;
-    published::run(&rt, &mut tally)?;
-    tally.close(&rt)
+    let mut tally = Tally::new(&rt);
+    counts::run(&mut tally)?;
+    making::run(&mut tally)?;
+    lending::run(&mut tally)?;
+    filling::run(&mut tally)?;
+    asking::run(&mut tally)?;
+    storing::run(&mut tally)?;
+    layers::run(&mut tally)?;
+    published::run(&mut tally)?;
+    tally.close()
 }

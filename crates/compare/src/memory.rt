@@ -3,58 +3,65 @@ use anyhow::anyhow;
 use modular::action::Action;
 use modular::letter::Letter;
 use std::alloc::{AllocError, Global};
+use table::finished::Finished;
 use table::growing::Growing;
 use table::link::Link;
 
 // More than the edges of any table.
 const MANY: usize = 130_001;
 
-// So many copies of a value.
-pub fn copies<T: Copy>(heap: Global, value: T, count: usize) -> Result<Vec<T>, AllocError> {
-    let mut all = Vec::new(heap);
-    for _ in 0..count {
-        all.push(value)?;
+// Rows and links that are lent to a table of an action.
+#[derive(Drop)]
+pub struct Memory<A: Action> {
+    pub rows: Vec<A::Record>,
+    pub links: Vec<Link>,
+}
+
+impl<A: Action> Memory<A> {
+    // So many rows, all alike, and so many links that are not filled.
+    pub fn new(
+        heap: Global,
+        action: &A,
+        rows: usize,
+        links: usize,
+    ) -> Result<Memory<A>, AllocError> {
+        Ok(Memory {
+            rows: vec![in heap; action.first(); rows]?,
+            links: vec![in heap; Link::empty(0, Letter::T); links]?,
+        })
     }
-    Ok(all)
-}
 
-// So many links that are not filled.
-pub fn no_links(heap: Global, count: usize) -> Result<Vec<Link>, AllocError> {
-    copies(heap, Link::empty(0, Letter::T), count)
-}
-
-// A word of so many letters T.
-pub fn letters(heap: Global, count: usize) -> Result<String, AllocError> {
-    let mut word = String::new(heap);
-    for _ in 0..count {
-        word.push('T')?;
-    }
-    Ok(word)
-}
-
-// Fills a table until it declines, and answers how many fills it accepted.
-pub fn fill<A: Action>(
-    table: &mut Growing<A>,
-    rows: &mut [A::Record],
-    links: &mut [Link],
-) -> usize {
-    for accepted in 0..MANY {
-        if table.fill(rows, links).is_err() {
-            return accepted;
+    // Opens the table of an action.
+    pub fn open(&mut self, action: A) -> anyhow::Result<Growing<A>>
+    where
+        A: Drop,
+    {
+        match Growing::open(action, &mut self.rows, &mut self.links) {
+            Ok(table) => Ok(table),
+            Err((_, refusal)) => Err(anyhow!("no table in this memory: {}", refusal.number())),
         }
     }
-    MANY
-}
 
-// A table of an action that is filled as far as this memory allows.
-pub fn filled<A: Action + Drop>(
-    action: A,
-    rows: &mut [A::Record],
-    links: &mut [Link],
-) -> anyhow::Result<Growing<A>> {
-    let Ok(mut table) = Growing::open(action, rows, links) else {
-        return Err(anyhow!("no table in this memory"));
-    };
-    fill(&mut table, rows, links);
-    Ok(table)
+    // Fills a table until it declines, and answers how many fills it accepted.
+    pub fn fill(&mut self, table: &mut Growing<A>) -> usize {
+        for accepted in 0..MANY {
+            if table.fill(&mut self.rows, &mut self.links).is_err() {
+                return accepted;
+            }
+        }
+        MANY
+    }
+
+    // The finished table of an action.
+    pub fn finished(&mut self, action: A) -> anyhow::Result<Finished<'_>>
+    where
+        A: Drop,
+    {
+        let mut table = self.open(action)?;
+        self.fill(&mut table);
+        match table.close(&self.rows, &self.links) {
+            Ok(finished) => Ok(finished),
+            Err((_, refusal)) => Err(anyhow!("the table is not finished: {}", refusal.number())),
+        }
+    }
 }

@@ -1,14 +1,10 @@
 // Lists of squares, which count from 1.
-use anyhow::anyhow;
 use origami::origami::Origami;
 use std::alloc::{AllocError, Global};
 
 // An origami of four squares, whose table has nine rows.
 pub fn four() -> anyhow::Result<Origami> {
-    let Ok(origami) = Origami::new(&[2, 3, 1, 4], &[4, 2, 3, 1]) else {
-        return Err(anyhow!("no origami of these squares"));
-    };
-    Ok(origami)
+    Ok(Origami::new(&[2, 3, 1, 4], &[4, 2, 3, 1])?)
 }
 
 // The two lists of an origami.
@@ -20,17 +16,16 @@ pub struct Squares {
 
 // Appends the squares after one of them, so many in turn.
 fn push_after(list: &mut Vec<u32>, square: u32, count: u32) -> Result<(), AllocError> {
-    for i in 0..count {
-        list.push(square.saturating_add(i).saturating_add(1))?;
+    let first = square.saturating_add(1);
+    for next in first..first.saturating_add(count) {
+        list.push(next)?;
     }
     Ok(())
 }
 
 // Each square to itself.
 pub fn identity(heap: Global, degree: u32) -> Result<Vec<u32>, AllocError> {
-    let mut list = Vec::new(heap);
-    push_after(&mut list, 0, degree)?;
-    Ok(list)
+    (1..=degree).collect(heap)
 }
 
 // Each square to the next, and the last to the first.
@@ -56,12 +51,12 @@ pub fn ell(heap: Global, row: u32, column: u32) -> Result<Squares, AllocError> {
 
 // A ring of pairs of squares; going up, the two squares of a pair change places.
 pub fn cross(heap: Global, pairs: u32) -> Result<Squares, AllocError> {
+    let degree = pairs.saturating_mul(2);
     let mut up = Vec::new(heap);
-    for i in 0..pairs {
-        let first = i.saturating_mul(2).saturating_add(1);
+    for first in (1..degree).step_by(2) {
         up.push(first.saturating_add(1))?;
         up.push(first)?;
     }
-    let right = ring(heap, pairs.saturating_mul(2))?;
+    let right = ring(heap, degree)?;
     Ok(Squares { right, up })
 }

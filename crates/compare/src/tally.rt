@@ -1,8 +1,10 @@
 // Answers, printed and counted.
+use levels::level::Refusal as LevelRefusal;
+use origami::refusal::Refusal as OrigamiRefusal;
 use std::fmt;
 use table::refusal::Refusal;
 
-// What a call answers, so far as it is compared here.
+// What a call answers, so far as it is compared here. Refusals of three libraries are told by the number that they print.
 #[derive(Clone, Copy, PartialEq, Eq)]
 pub enum Answer {
     Accepted,
@@ -16,36 +18,60 @@ pub enum Answer {
     DeclinedAt(u8, usize),
 }
 
-impl Answer {
-    // Whether a call is accepted, whatever it gives.
-    pub fn of<V: Drop>(res: Result<V, Refusal>) -> Answer {
-        match res {
-            Ok(_) => Answer::Accepted,
-            Err(refusal) => Answer::refusal(refusal),
-        }
+impl From<u16> for Answer {
+    fn from(row: u16) -> Answer {
+        Answer::Number(usize::from(row))
     }
+}
 
-    // A row that is given, or the refusal.
-    pub fn row(res: Result<u16, Refusal>) -> Answer {
-        match res {
-            Ok(row) => Answer::Number(usize::from(row)),
-            Err(refusal) => Answer::refusal(refusal),
-        }
+impl From<usize> for Answer {
+    fn from(number: usize) -> Answer {
+        Answer::Number(number)
     }
+}
 
-    // A number that is given, or the refusal.
-    pub fn number(res: Result<usize, Refusal>) -> Answer {
-        match res {
-            Ok(number) => Answer::Number(number),
-            Err(refusal) => Answer::refusal(refusal),
-        }
+impl From<bool> for Answer {
+    fn from(same: bool) -> Answer {
+        Answer::Same(same)
     }
+}
 
-    pub fn refusal(refusal: Refusal) -> Answer {
+impl From<LevelRefusal> for Answer {
+    fn from(refusal: LevelRefusal) -> Answer {
+        Answer::Declined(refusal.number())
+    }
+}
+
+impl From<OrigamiRefusal> for Answer {
+    fn from(refusal: OrigamiRefusal) -> Answer {
+        Answer::Declined(refusal.number())
+    }
+}
+
+impl From<Refusal> for Answer {
+    fn from(refusal: Refusal) -> Answer {
         match refusal {
             Refusal::NotALetter(place) => Answer::DeclinedAt(refusal.number(), place),
             Refusal::EmptyEdge(place) => Answer::DeclinedAt(refusal.number(), place),
             _ => Answer::Declined(refusal.number()),
+        }
+    }
+}
+
+impl Answer {
+    // What a call gives, or its refusal.
+    pub fn told<V: Into<Answer>, E: Into<Answer>>(res: Result<V, E>) -> Answer {
+        match res {
+            Ok(given) => given.into(),
+            Err(refusal) => refusal.into(),
+        }
+    }
+
+    // Whether a call is accepted, whatever it gives.
+    pub fn accepted<V: Drop, E: Into<Answer>>(res: Result<V, E>) -> Answer {
+        match res {
+            Ok(_) => Answer::Accepted,
+            Err(refusal) => refusal.into(),
         }
     }
 }
@@ -63,42 +89,43 @@ impl fmt::Display for Answer {
     }
 }
 
-// How many cases were compared, and how many of them differ from what was expected.
+// Prints cases, and counts them and those that differ from what was expected.
 #[derive(Drop)]
-pub struct Tally {
+pub struct Tally<'a> {
+    pub rt: &'a HostRuntime,
     cases: usize,
     differ: usize,
 }
 
-impl Tally {
-    pub fn new() -> Tally {
+impl<'a> Tally<'a> {
+    pub fn new(rt: &'a HostRuntime) -> Tally<'a> {
         Tally {
+            rt,
             cases: 0,
             differ: 0,
         }
     }
 
     // Prints a case, and counts it.
-    pub fn compare<V: fmt::Display + PartialEq + Drop>(
+    pub fn compare<C: fmt::Display + Drop, V: fmt::Display + PartialEq + Drop>(
         &mut self,
-        rt: &HostRuntime,
-        case: &str,
+        case: C,
         got: V,
         expected: V,
     ) -> anyhow::Result<()> {
         self.cases = self.cases.saturating_add(1);
         if got == expected {
-            println!(rt; "{case}: {got}, expected {expected}")?;
+            println!(self.rt; "{case}: {got}, expected {expected}")?;
         } else {
             self.differ = self.differ.saturating_add(1);
-            println!(rt; "{case}: {got}, expected {expected} DIFFERS")?;
+            println!(self.rt; "{case}: {got}, expected {expected} DIFFERS")?;
         }
         Ok(())
     }
 
     // Prints the last line.
-    pub fn close(&self, rt: &HostRuntime) -> anyhow::Result<()> {
-        println!(rt; "{} cases, {} differ", self.cases, self.differ)?;
+    pub fn close(&self) -> anyhow::Result<()> {
+        println!(self.rt; "{} cases, {} differ", self.cases, self.differ)?;
         Ok(())
     }
 }
