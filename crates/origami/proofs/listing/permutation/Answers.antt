@@ -18,15 +18,6 @@ returns-then-n-eq0 c =
       ],
     )
 
-pub loop-i-preserved : goal.loop-i-preserved
-loop-i-preserved c =
-    let i = c.loop-i.i in
-    let xs = c.args.list.now in
-    let low : 1 ≤ get_or xs i 0 = omega arith in (
-      filled_more (target xs) i c.loop-i.squares (get_or xs i 0 - 1) (omega arith) refl c.loop-i.invariant.0,
-      seen_more c.args.degree i xs c.loop-i.seen c.requires low (omega arith) c.if-seen-n.false c.loop-i.invariant.1,
-    )
-
 pub returns : goal.returns
 returns c =
     let d = c.args.degree in

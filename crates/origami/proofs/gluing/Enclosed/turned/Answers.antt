@@ -5,12 +5,6 @@ use Rattle.origami.proofs.Filled.{Undoing, undoing_more, undoing_all}
 use Rattle.origami.proofs.Insides.{turned_inside}
 use Rattle.origami.proofs.gluing.Enclosed.turned.Goals as goal
 
-pub loop-i-preserved : goal.loop-i-preserved
-loop-i-preserved c =
-    let g = c.args.self.gluing in
-    let ok = c.args.self.ok in
-    undoing_more g.degree (right_of g) c.loop-i.i c.loop-i.up ok.few (ok.rights c.loop-i.i (omega arith)) c.loop-i.invariant
-
 -- the entries that the loop wrote
 made : (g : Gluing) (i : ℕ) (up : List ℕ) → i ≡ g.degree → Undoing g.degree (right_of g) i up → up ≡ (turned g).up
 made g i up e u = undoing_all g.degree (right_of g) up (subst (λ n. Undoing g.degree (right_of g) n up) e u)

@@ -14,13 +14,6 @@ pub returns-then-not-has_neighbours : goal.returns-then-not-has_neighbours
 returns-then-not-has_neighbours c =
     sym (unmet_inside c.args.self c.loop-square.square (omega arith) (sym c.has_neighbours.ensures ∙ c.if-not-has_neighbours.true))
 
-pub loop-square-preserved : goal.loop-square-preserved
-loop-square-preserved c =
-    let g = c.args.self in
-    let k = c.loop-square.square in
-    let both = and_from (inside_below g k) (met g k) c.loop-square.invariant (sym c.has_neighbours.ensures ∙ c.if-not-has_neighbours.false) in
-    rw add-one both
-
 pub invariant_of-result : goal.invariant_of-result
 invariant_of-result c =
     let g = c.args.self in

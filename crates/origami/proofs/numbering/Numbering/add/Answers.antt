@@ -8,6 +8,3 @@ returns-then-is_none c =
     let os : length n.order ≡ 16 = search rules in
     let ns : length n.number ≡ 16 = search rules in
     λ x xs h. holds_new x xs n h c.args.square c.requires.0 (none_is _ c.if-is_none.ensures) (c.requires.1 (none_is _ c.if-is_none.ensures)) os ns
-
-pub returns-else-is_none : goal.returns-else-is_none
-returns-else-is_none c = λ x xs h. holds_old x xs c.args.self.now h c.args.square c.requires.0 (some_is _ c.if-is_none.ensures)
