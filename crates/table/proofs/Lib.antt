@@ -6,11 +6,11 @@ mod Cusps
 mod Cycles
 mod Dividing
 mod EveryRun
-mod FillTests
 mod Filling
 mod FinishedLaws
 mod Finishing
 mod Following
+mod Generated
 mod Generating
 mod Growth
 mod Limits
