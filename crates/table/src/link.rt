@@ -1,7 +1,7 @@
 // What a table keeps of a row besides its record.
 ghost use Rattle.std.specs.Prelude.{◌≡◌};
 ghost use Rattle.table.specs.Growing.{aimed};
-ghost use Rattle.table.specs.Links.{aim, empty, target_of};
+ghost use Rattle.table.specs.Links.{aim, empty, next, target_of};
 
 use modular::letter::Letter;
 
@@ -56,5 +56,15 @@ impl Link {
             Letter::T => Link { t: row, ..self },
             Letter::S => Link { s: row, ..self },
         }
+    }
+}
+
+// Where the step of a letter leads from a row; a number that is no row stays where it is.
+pub fn next(links: &[Link], letter: Letter, row: u16) -> u16
+    ensures { result ≡ next links.now letter row }
+{
+    match links.get(usize::from(row)) {
+        Some(link) => link.aim(letter),
+        None => row,
     }
 }

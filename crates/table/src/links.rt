@@ -2,7 +2,7 @@
 ghost use Rattle.std.specs.Prelude.{◌≡◌, ◌≤◌, length};
 ghost use Rattle.table.specs.Links.{at, next};
 
-use crate::link::Link;
+use crate::link::{Link, next};
 use modular::letter::Letter;
 
 // No more links than a table can have, so that row numbers, edge numbers and counts of rows never wrap.
@@ -38,13 +38,10 @@ impl<'a> Links<'a> {
         }
     }
 
-    // Where the step of a letter leads from a row; a number that is no row stays where it is.
+    // Where the step of a letter leads from a row.
     pub fn next(self, letter: Letter, row: u16) -> u16
         ensures { result ≡ next self.entry.links.now letter row }
     {
-        match self.links.get(usize::from(row)) {
-            Some(link) => link.aim(letter),
-            None => row,
-        }
+        next(self.links, letter, row)
     }
 }
