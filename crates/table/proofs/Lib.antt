@@ -7,6 +7,7 @@ mod Cycles
 mod Dividing
 mod EveryRun
 mod Filling
+pub mod Fills
 mod FinishedLaws
 mod Finishing
 mod Following

@@ -1,7 +1,7 @@
 // The calls of a growing table: a file of its own, since what they promise is about the table's parts.
 ghost use Rattle.std.specs.Prelude.{◌≡◌, IfErr, Ok, Err, MatchResult};
 ghost use Rattle.std.specs.Str.{chars};
-ghost use Rattle.table.specs.Growing.{closing, filling, following, lendable, moment, opened};
+ghost use Rattle.table.specs.Growing.{FilledOn, closing, filling, following, lendable, moment, opened};
 ghost use Rattle.table.specs.Runs.{EveryRunFromOpen};
 
 use crate::counts::{Counts, Filled};
@@ -89,6 +89,19 @@ impl<A: Action> Growing<A> {
             row: held,
             new: true,
         })
+    }
+
+    // Fills edges until a fill is declined, and answers why it was.
+    pub fn fill_up(&mut self, rows: &mut [A::Record], links: &mut [Link]) -> Refusal
+        ensures way { FilledOn (A.start self.old.action) (A.step_t self.old.action) (A.step_s self.old.action) (A.agrees self.old.action) (moment self.old.counts rows.old links.old) (moment self.new.counts rows.new links.new) }
+        ensures end { (filling (A.start self.old.action) (A.step_t self.old.action) (A.step_s self.old.action) (A.agrees self.old.action) (moment self.new.counts rows.new links.new)).answer ≡ Err result }
+        ensures action { self.new.action ≡ self.old.action }
+    {
+        loop {
+            if let Err(refusal) = self.fill(rows, links) {
+                return refusal;
+            }
+        }
     }
 
     // The row to which a word leads from row 0. It writes nothing.

@@ -1,21 +1,16 @@
 -- Fills, one after the other.
-use Rattle.std.proofs.Common.{◌≡◌, ℕ, Bool, true, false, Ok, Err, Result, sym, refl, ap, ◌∙◌, subst, arith}
+use Rattle.std.proofs.Common.{◌≡◌, Bool, true, false, Ok, Err, Result, sym, refl, ap, ◌∙◌, subst}
 use Rattle.table.specs.declared.counts.Filled.{Filled}
 use Rattle.table.specs.declared.refusal.Refusal.{Refusal}
-use Rattle.table.specs.Growing.{Growing, filling, fill_by, as_lent, edge_left, row_free, agreed}
-use Rattle.listing.specs.Grown.{FilledOn, none, more}
-
--- what is accepted is not declined
-pub clash : {A E X : Type 0} {a : A} {e : E} → ◌≡◌ {A = Result A E} (Ok a) (Err e) → X
-clash p = let z : ◌≡◌ {A = ℕ} 0 1 = cc in absurd (omega arith)
+use Rattle.table.specs.Growing.{Growing, filling, fill_by, as_lent, edge_left, row_free, agreed, FilledOn, none, more}
 
 module _ {R : Type 0} (start : R) (t s : R → R) (agrees : R → R → Bool) where
   kept_by : (m : Growing R) (e : Refusal) (lent left old free : Bool) → (fill_by start t s agrees m lent left old free).answer ≡ Err e → (fill_by start t s agrees m lent left old free).memory ≡ m
   kept_by m e false left old free h = refl
   kept_by m e true false old free h = refl
-  kept_by m e true true true free h = clash h
+  kept_by m e true true true free h = cc
   kept_by m e true true false false h = refl
-  kept_by m e true true false true h = clash h
+  kept_by m e true true false true h = cc
 
   -- a fill that is declined leaves the table as it was
   pub fill_kept : (m : Growing R) (e : Refusal) → (filling start t s agrees m).answer ≡ Err e → (filling start t s agrees m).memory ≡ m
