@@ -3,9 +3,9 @@ use crate::checksum::Checksum;
 use crate::random::Random;
 use modular::action::Action;
 use modular::letter::Letter;
-use std::alloc::{AllocError, Global};
+use std::alloc::Global;
 use table::finished::Finished;
-use table::growing::{Growing, MOST};
+use table::growing::Growing;
 use table::link::Link;
 
 // Which random matrices to place on a table, and how many.
@@ -15,38 +15,13 @@ pub struct Placements {
     pub count: u64,
 }
 
-impl Placements {
-    pub const NONE: Placements = Placements { seed: 0, count: 0 };
-}
-
-// A list of so many values, all alike.
-fn alike<T: Copy>(heap: Global, x: T, count: usize) -> Result<Vec<T>, AllocError> {
-    let mut list = Vec::with_capacity(heap, count)?;
-    for _ in 0..count {
-        list.push(x)?;
-    }
-    Ok(list)
-}
-
-// Fills edges until a fill is declined. No table has more than 2 * MOST edges.
-fn fill_on<A: Action>(table: &mut Growing<A>, rows: &mut [A::Record], links: &mut [Link]) {
-    for _ in 0..2 * MOST {
-        if table.fill(rows, links).is_err() {
-            break;
-        }
-    }
-}
-
 // Adds all fields of all links.
 fn add_links(sum: &mut Checksum, links: &[Link]) {
     for link in links {
         sum.add(u64::from(link.t));
         sum.add(u64::from(link.s));
         sum.add(u64::from(link.parent));
-        sum.add(match link.letter {
-            Letter::T => 0,
-            Letter::S => 1,
-        });
+        sum.add(u64::from(link.letter == Letter::S));
     }
 }
 
@@ -65,28 +40,27 @@ fn grow_in<A: Action + Drop>(
     action: A,
     rows: &mut [A::Record],
     links: &mut [Link],
-    placements: Placements,
-) -> u64 {
-    let Ok(mut table) = Growing::open(action, rows, links) else {
-        return 0;
-    };
-    fill_on(&mut table, rows, links);
-    let Ok(finished) = table.close(rows, links) else {
-        return 0;
-    };
+    placements: Option<Placements>,
+) -> Option<u64> {
+    let mut table = Growing::open(action, rows, links).ok()?;
+    table.fill_up(rows, links);
+    let finished = table.close(rows, links).ok()?;
     let mut sum = Checksum::new();
     add_links(&mut sum, finished.links());
-    add_places(&mut sum, &finished, placements);
-    sum.value()
+    if let Some(placements) = placements {
+        add_places(&mut sum, &finished, placements);
+    }
+    Some(sum.value())
 }
 
 // The same in memory for `room` rows that is had from the heap.
-pub fn grow<A: Action + Drop>(heap: Global, action: A, room: usize, placements: Placements) -> u64 {
-    let Ok(mut rows) = alike(heap, action.first(), room) else {
-        return 0;
-    };
-    let Ok(mut links) = alike(heap, Link::empty(0, Letter::T), room) else {
-        return 0;
-    };
+pub fn grow<A: Action + Drop>(
+    heap: Global,
+    action: A,
+    room: usize,
+    placements: Option<Placements>,
+) -> Option<u64> {
+    let mut rows = vec![in heap; action.first(); room].ok()?;
+    let mut links = vec![in heap; Link::empty(0, Letter::T); room].ok()?;
     grow_in(action, &mut rows, &mut links, placements)
 }

@@ -19,9 +19,7 @@ fn report<A: Action + Drop>(
     rows: &mut [A::Record],
     links: &mut [Link],
 ) -> anyhow::Result<()> {
-    for _ in 0..2 * ROOM {
-        let _ = table.fill(rows, links);
-    }
+    table.fill_up(rows, links);
     let reached = table.follow(rows, links, "ST");
     let Ok(finished) = table.close(rows, links) else {
         return Err(anyhow!("the table needs more rows"));
@@ -32,19 +30,16 @@ fn report<A: Action + Drop>(
         finished.rows(),
         finished.shape().cusps
     )?;
-    println!(rt; "the word ST leads to row {}", reached.unwrap_or(0))?;
-    println!(rt; "the matrix 5,2,12,5 leads to row {}", row.unwrap_or(0))?;
+    println!(rt; "the word ST leads to row {}", reached?)?;
+    println!(rt; "the matrix 5,2,12,5 leads to row {}", row?)?;
     Ok(())
 }
 
 fn main(rt: HostRuntime) -> anyhow::Result<()> {
     let mut rows = [Vector { c: 0, d: 0 }; ROOM];
     let mut links = [Link::empty(0, Letter::T); ROOM];
-    let Ok(lines) = Lines::new(6) else {
-        return Err(anyhow!("no such level"));
-    };
-    let Ok(table) = Growing::open(lines, &mut rows, &mut links) else {
-        return Err(anyhow!("no table in this memory"));
-    };
-    report(&rt, table, &mut rows, &mut links)
+    match Growing::open(Lines::new(6)?, &mut rows, &mut links) {
+        Ok(table) => report(&rt, table, &mut rows, &mut links),
+        Err((_, refusal)) => Err(refusal.into()),
+    }
 }

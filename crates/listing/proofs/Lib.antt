@@ -1,4 +1,3 @@
-mod Fills
 mod Opening
 mod Turns
 mod Whole

@@ -12,7 +12,7 @@ use Rattle.table.specs.declared.link.Link.{Link}
 use Rattle.table.specs.declared.refusal.Refusal.{Refusal}
 use Rattle.table.specs.declared.refusal.Refusal.TheVariants.{NoFreeRow}
 use Rattle.table.specs.Facts.{Growth, Steps}
-use Rattle.table.specs.Growing.{Growing, filling, closing, next_row, next_letter, step}
+use Rattle.table.specs.Growing.{Growing, FilledOn, none, more, filling, closing, next_row, next_letter, step}
 use Rattle.table.specs.Questions.{placing, place_by, within, is_one}
 use Rattle.table.specs.Placing.{placed}
 use Rattle.table.specs.Runs.{Event, Run, EveryRun, growing, finished, call, answered, called, fill, close, own, place, closed}
@@ -20,10 +20,9 @@ use Rattle.std.specs.declared.alloc.Global.{Global}
 use Rattle.listing.specs.declared.error.Error.{Error}
 use Rattle.listing.specs.declared.error.Error.TheVariants.{Declined, Memory}
 use Rattle.listing.specs.Errors.{Tells}
-use Rattle.listing.specs.Grown.{FilledOn, none, more, Crowded, Answered, answer_line, FirstUnplaced, ListedOr}
+use Rattle.listing.specs.Grown.{Crowded, Answered, answer_line, FirstUnplaced, ListedOr}
 use Rattle.listing.specs.Lines.{member_line, member_lines, table_lines}
 use Rattle.listing.specs.Lines as lines
-use Rattle.listing.proofs.Fills.{clash}
 
 -- the lines of a matrix and of those after it, by where it is placed
 abbrev going : List Link → List ℕ → List M2 → Result ℕ Refusal → Result (List ℕ) Refusal
@@ -110,21 +109,21 @@ module _ {R : Type 0} (start : R) (t s : R → R) (agrees : R → R → Bool) (s
         by told (Ok r) e h =
             let p = told (text ++ member_line r) out h in
             (member_line r ++ p.0, p.1 ∙ append_assoc text (member_line r) p.0, (eqb r 0, p.0, member_at x r e, ap (λ l. l ++ p.0) (member_line_told r), p.2))
-        by told (Err f) e h = clash (sym h)
+        by told (Err f) e h = cc
 
 -- a matrix is declined whatever the links are
 declined_by : (a b : Bool) (r q : ℕ) (e : Refusal) → place_by a b r ≡ Err e → place_by a b q ≡ Err e
 declined_by false b r q e h = h
 declined_by true false r q e h = h
-declined_by true true r q e h = clash h
+declined_by true true r q e h = cc
 
 -- the first matrix that is declined decides
 pub first_unplaced : (links : List Link) (xs : List M2) (text : List ℕ) (e : Refusal) → member_lines links text xs ≡ Err e → FirstUnplaced xs e
-first_unplaced links [] text e h = clash h
+first_unplaced links [] text e h = cc
 first_unplaced links (x ∷ xs) text e h = by (first_unplaced links xs) (placing links x) refl h
   where
     by : ((text : List ℕ) (e : Refusal) → member_lines links text xs ≡ Err e → FirstUnplaced xs e) → (o : Result ℕ Refusal) → placing links x ≡ o → going links text xs o ≡ Err e → FirstUnplaced (x ∷ xs) e
-    by rest (Ok r) q h = inr (λ f u. clash (sym q ∙ declined_by (within 1000000000 x) (is_one (det x)) 0 (placed links x) f u), rest (text ++ member_line r) e h)
+    by rest (Ok r) q h = inr (λ f u. (cc (sym q ∙ declined_by (within 1000000000 x) (is_one (det x)) 0 (placed links x) f u)), rest (text ++ member_line r) e h)
     by rest (Err f) q h = let same : f ≡ e = cc h in inl (declined_by (within 1000000000 x) (is_one (det x)) (placed links x) 0 e (q ∙ ap Err same))
 
 -- the listing of a finished table that a run leads to

@@ -1,5 +1,4 @@
 -- Growing the whole table of an action, and what its listing tells.
---     FilledOn start t s agrees m n     accepted fills alone lead from the growing table m to n
 --     Crowded start t s n               more than n points are reachable: n of them, the first in the order of their least words,
 --                                       and one more
 --     Answered G xs text                the text has a line for each matrix of xs, which says whether it is in G
@@ -13,14 +12,13 @@ use Rattle.std.specs.Prelude.{◌≡◌, ℕ, Bool, true, false, ◌⊎◌, List
 use Rattle.std.specs.declared.alloc.Global.{Global}
 use Rattle.modular.specs.Actions.{Member, Reachable}
 use Rattle.modular.specs.Matrix.{M2, det}
-use Rattle.table.specs.declared.counts.Filled.{Filled}
 use Rattle.table.specs.declared.link.Link.{Link}
 use Rattle.table.specs.declared.refusal.Refusal.{Refusal}
 use Rattle.table.specs.declared.refusal.Refusal.TheVariants.{NoFreeRow}
 use Rattle.table.specs.declared.refusal.Refusal.TheVariants.{Memory as Lent}
 use Rattle.table.specs.Cosets.{CosetLaw}
 use Rattle.table.specs.Facts.{Finished}
-use Rattle.table.specs.Growing.{Growing, filling, lendable}
+use Rattle.table.specs.Growing.{Growing, lendable}
 use Rattle.table.specs.Matrices.{MatrixLaw}
 use Rattle.table.specs.Runs.{Event, Run, EveryRun, growing}
 use Rattle.table.specs.Order.{Listed, Among}
@@ -28,11 +26,6 @@ use Rattle.table.specs.Questions.{is_one, place_by, within}
 use Rattle.listing.specs.declared.error.Error.{Error}
 use Rattle.listing.specs.declared.error.Error.TheVariants.{Declined, Memory}
 use Rattle.listing.specs.Lines.{line, table_lines}
-
-pub data FilledOn {R : Type 0} (start : R) (t s : R → R) (agrees : R → R → Bool) (m : Growing R) : Growing R → Type 0 where
-  none : FilledOn start t s agrees m m
-  more : (n : Growing R) (a : Filled) → FilledOn start t s agrees m n → (filling start t s agrees n).answer ≡ Ok a
-      → FilledOn start t s agrees m (filling start t s agrees n).memory
 
 abbrev pub Crowded : {R : Type 0} → R → (R → R) → (R → R) → ℕ → Type 0
 Crowded {R} start t s n =

@@ -1,8 +1,8 @@
 // Growing the whole table of an action, and listing it.
-ghost use Rattle.std.specs.Prelude.{◌≡◌, map, length, IfOk, Err, vec_len};
-ghost use Rattle.listing.specs.Grown.{FilledOn, Finishes, GrownIn, GrownOr};
+ghost use Rattle.std.specs.Prelude.{◌≡◌, map, length, IfOk, vec_len};
+ghost use Rattle.listing.specs.Grown.{Finishes, GrownIn, GrownOr};
 ghost use Rattle.modular.specs.Matrix.{entries};
-ghost use Rattle.table.specs.Growing.{filling, moment};
+ghost use Rattle.table.specs.Growing.{moment};
 
 use crate::error::Error;
 use crate::listing;
@@ -12,20 +12,6 @@ use modular::matrix::Matrix;
 use std::alloc::{AllocError, Global};
 use table::growing::Growing;
 use table::link::Link;
-use table::refusal::Refusal;
-
-// Fills edges until a fill is declined, and answers why it was.
-fn fill_on<A: Action>(table: &mut Growing<A>, rows: &mut [A::Record], links: &mut [Link]) -> Refusal
-    ensures way { FilledOn (A.start table.old.action) (A.step_t table.old.action) (A.step_s table.old.action) (A.agrees table.old.action) (moment table.old.counts rows.old links.old) (moment table.new.counts rows.new links.new) }
-    ensures end { (filling (A.start table.old.action) (A.step_t table.old.action) (A.step_s table.old.action) (A.agrees table.old.action) (moment table.new.counts rows.new links.new)).answer ≡ Err result }
-    ensures action { table.new.action ≡ table.old.action }
-{
-    loop {
-        if let Err(refusal) = table.fill(rows, links) {
-            return refusal;
-        }
-    }
-}
 
 // A list of so many values, all alike.
 fn alike<T: Copy>(heap: Global, x: T, count: usize) -> Result<Vec<T>, AllocError>
@@ -48,7 +34,7 @@ fn finish<A: Action + Drop>(
 ) -> Result<String, Error>
     ensures { Finishes (A.start table.action) (A.step_t table.action) (A.step_s table.action) (A.agrees table.action) (moment table.counts rows.old links.old) (map entries matrices.now) result }
 {
-    let ended = fill_on(&mut table, rows, links);
+    let ended = table.fill_up(rows, links);
     let Ok(finished) = table.close(rows, links) else {
         return Err(Error::Declined(ended));
     };

@@ -6,11 +6,12 @@ mod Cusps
 mod Cycles
 mod Dividing
 mod EveryRun
-mod FillTests
 mod Filling
+pub mod Fills
 mod FinishedLaws
 mod Finishing
 mod Following
+mod Generated
 mod Generating
 mod Growth
 mod Limits

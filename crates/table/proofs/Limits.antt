@@ -1,8 +1,9 @@
 -- Matrices whose entries are within a limit.
 use Rattle.std.proofs.Common.{◌≡◌, ℕ, ◌≤◌, Bool, true, false, ◌&&◌, leb, List, [], ◌∷◌, ◌++◌, ℤ, pos, negsuc, neg_ℤ, nat_abs, Some, None, Option, sym, refl, ap, ◌∙◌, arith, w64, SFits}
 use borrow.Author.Differences.{ints}
+use Rattle.std.specs.Bool.{then_some}
 use Rattle.std.specs.Option.{SomeIff}
-use Rattle.std.proofs.lemmas.Bool.{and_parts, leb-true, le-leb, and_from}
+use Rattle.std.proofs.lemmas.Bool.{false≢true, and_parts, leb-true, le-leb, and_from}
 use Rattle.modular.specs.declared.letter.Letter.{Letter}
 use Rattle.modular.specs.Matrix.{M2, Fits, identity, inverted, ◌·◌}
 use Rattle.modular.specs.Words.{of_letter, matrix}
@@ -79,3 +80,8 @@ prefix_whole n w h = ap (within n) (sym (identity_left (matrix w))) ∙ whole_fr
 pub checked_as : {X : Type 0} (r : Option X) (P Q : Type 0) (v w : X) → (P → Q) → (Q → P) → v ≡ w → SomeIff r P v → SomeIff r Q w
 checked_as None P Q v w f g e h = λ q. h (g q)
 checked_as (Some x) P Q v w f g e h = (f h.0, h.1 ∙ e)
+
+-- a value that is given where a test passes
+pub tested : {X : Type 0} (b c : Bool) (x v : X) → b ≡ c → x ≡ v → SomeIff (then_some b x) (c ≡ true) v
+tested true c x v e f = (sym e, f)
+tested false c x v e f = λ h. false≢true (e ∙ h)

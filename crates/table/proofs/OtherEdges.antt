@@ -34,5 +34,5 @@ module _ (links : List Link) where
   ]
 
   -- the edge after so many others is the one of that number
-  pub other_at : (m n k : ℕ) → n < m → is_tree links n ≡ false → length (other_below links n) ≡ k → n ≡ get_or (other_below links m) k 0
-  other_at m n k l e q = sym (placed m n l e).1 ∙ ap (λ i. get_or (other_below links m) i 0) q
+  pub other_at : (m n k : ℕ) → n < m → is_tree links n ≡ false → length (other_below links n) ≡ k → (k < length (other_below links m)) × (n ≡ get_or (other_below links m) k 0)
+  other_at m n k l e q = let p = placed m n l e in (omega (arith, p.0), sym p.1 ∙ ap (λ i. get_or (other_below links m) i 0) q)

@@ -1,24 +1,28 @@
--- The row sought, told by the rows before it.
-use Rattle.std.proofs.Common.{◌≡◌, ℕ, zero, suc, ◌<◌, Bool, true, false, List, [], ◌∷◌, length, get_or, sym, refl, ap, ◌∙◌, arith}
+-- The row sought, told by the first row that agrees.
+use Rattle.std.proofs.Common.{◌≡◌, ℕ, suc, ◌<◌, Bool, true, false, List, length, Some, None, Option, MatchOption, sym, refl, ap, ◌∙◌, add-one}
+use Rattle.std.specs.Option.{unwrap_or}
+use Rattle.std.specs.List.{AllWithin, HoldsAt}
+use Rattle.std.proofs.lemmas.Iterator.{index_from_first}
 use Rattle.table.specs.Growing.{sought}
 
-module _ {R : Type 0} (agrees : R → R → Bool) (p d : R) where
+module _ {R : Type 0} (agrees : R → R → Bool) (p : R) where
+  abbrev pub Yes : R → Type 0
+  Yes q = agrees q p ≡ true
+
+  abbrev pub No : R → Type 0
+  No q = agrees q p ≡ false
+
   -- the row sought, by whether the first row agrees, where it is n among the others
   abbrev by : ℕ → Bool → ℕ
   by n b = elim b [ true ↦ 0 | false ↦ suc n ]
 
-  -- rows before it do not agree, and it does
-  pub sought_stops : (qs : List R) (i : ℕ) → i < length qs → agrees (get_or qs i d) p ≡ true
-      → ((k : ℕ) → k < i → agrees (get_or qs k d) p ≡ false) → i ≡ sought agrees qs p
-  sought_stops [] i h e f = absurd (omega arith)
-  sought_stops (q ∷ qs) zero h e f = ap (by (sought agrees qs p)) (sym e)
-  sought_stops (q ∷ qs) (suc i) h e f =
-      ap suc (sought_stops qs i (omega arith) e (λ k l. f (suc k) (omega arith)))
-      ∙ ap (by (sought agrees qs p)) (sym (f 0 (omega arith)))
+  place : (qs : List R) (r : Option ℕ) → MatchOption r (AllWithin No qs 0 (length qs)) (λ i. (i < length qs) × HoldsAt Yes qs i × AllWithin No qs 0 i) → sought agrees qs p ≡ unwrap_or r (length qs)
+  place qs r h =
+      index_from_first (λ qs. sought agrees qs p) Yes No refl (λ q qs e. ap (by (sought agrees qs p)) e)
+      (λ q qs e. ap (by (sought agrees qs p)) e ∙ sym (add-one (sought agrees qs p))) qs r h
 
-  -- no row agrees
-  pub sought_none : (qs : List R) → ((k : ℕ) → k < length qs → agrees (get_or qs k d) p ≡ false) → length qs ≡ sought agrees qs p
-  sought_none [] f = refl
-  sought_none (q ∷ qs) f =
-      ap suc (sought_none qs (λ k l. f (suc k) (omega arith)))
-      ∙ ap (by (sought agrees qs p)) (sym (f 0 (omega arith)))
+  -- the first place where one agrees, if there is one
+  pub sought_first : (qs : List R) (r : Option ℕ) → MatchOption r (AllWithin No qs 0 (length qs)) (λ i. (i < length qs) × HoldsAt Yes qs i × AllWithin No qs 0 i)
+      → MatchOption r (sought agrees qs p ≡ length qs) (λ i. (i < length qs) × (i ≡ sought agrees qs p))
+  sought_first qs None h = place qs None h
+  sought_first qs (Some i) h = (h.0, sym (place qs (Some i) h))

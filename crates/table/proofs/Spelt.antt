@@ -33,21 +33,21 @@ module _ (links : List Link) where
   ]
 
 -- a write right before what is written already
-pub written_before : (out w : List ℕ) (k x : ℕ) (rest : List ℕ) → k < length out → k < length w → get_or w k 0 ≡ x
-    → set (take (k + 1) out ++ (drop (k + 1) w ++ rest)) k x ≡ take k out ++ (drop k w ++ rest)
-written_before out w k x rest h l e =
-    ap (λ p. set (p ++ (drop (k + 1) w ++ rest)) k x) (take_more out k 0 h)
-    ∙ ap (λ p. set p k x) (append_assoc (take k out) (get_or out k 0 ∷ []) (drop (k + 1) w ++ rest))
-    ∙ set_at (take k out) (get_or out k 0) (drop (k + 1) w ++ rest) x k (length-take-le k out (omega arith))
-    ∙ ap (λ p. take k out ++ (p ++ rest)) (ap (λ y. y ∷ drop (k + 1) w) (sym e) ∙ sym (drop_more w k 0 l))
+pub written_before : (out w : List ℕ) (k x : ℕ) → k < length out → k < length w → get_or w k 0 ≡ x
+    → set (take (k + 1) out ++ drop (k + 1) w) k x ≡ take k out ++ drop k w
+written_before out w k x h l e =
+    ap (λ p. set (p ++ drop (k + 1) w) k x) (take_more out k 0 h)
+    ∙ ap (λ p. set p k x) (append_assoc (take k out) (get_or out k 0 ∷ []) (drop (k + 1) w))
+    ∙ set_at (take k out) (get_or out k 0) (drop (k + 1) w) x k (length-take-le k out (omega arith))
+    ∙ ap (λ p. take k out ++ p) (ap (λ y. y ∷ drop (k + 1) w) (sym e) ∙ sym (drop_more w k 0 l))
 
 -- before the first write nothing is written, and after the last one the whole word is
-pub written_none : (out w : List ℕ) (n : ℕ) → length w ≤ n → out ≡ take n out ++ (drop n w ++ drop n out)
-written_none out w n h = sym (take-append-drop n out) ∙ ap (λ l. take n out ++ (l ++ drop n out)) (sym (drop_all n w h))
+pub written_none : (out w : List ℕ) (n : ℕ) → length out ≤ n → length w ≤ n → out ≡ take n out ++ drop n w
+written_none out w n h l = sym (take-append-drop n out) ∙ ap (λ l. take n out ++ l) (drop_all n out h ∙ sym (drop_all n w l))
 
-pub written_all : (out w rest : List ℕ) (k : ℕ) → k ≤ 0 → take k out ++ (drop k w ++ rest) ≡ w ++ rest
-written_all out w rest zero h = refl
-written_all out w rest (suc k) h = absurd (omega arith)
+pub written_all : (out w : List ℕ) (k : ℕ) → k ≤ 0 → take k out ++ drop k w ≡ w
+written_all out w zero h = refl
+written_all out w (suc k) h = absurd (omega arith)
 
 -- spell by the outcome of its tests
 module _ (links : List Link) (r : ℕ) (out : List ℕ) (l : r < length links) where

@@ -1,5 +1,8 @@
 -- Counting the numbers that pass a test.
-use Rattle.std.proofs.Common.{◌≡◌, ℕ, zero, suc, ◌+◌, ◌<◌, ◌≤◌, Bool, true, false, cond, eqb, sym, refl, ap, ◌∙◌, arith, eq-eqb, ne_eqb, eqb-true}
+use Rattle.std.proofs.Common.{◌≡◌, ℕ, zero, suc, ◌+◌, ◌<◌, ◌≤◌, Bool, true, false, cond, eqb, List, [], ◌∷◌, ◌++◌, length, sym, refl, ap, ◌∙◌, add-one, arith, eq-eqb, ne_eqb, eqb-true, length-append}
+use Rattle.std.specs.List.{filter, range_with_len}
+use Rattle.std.proofs.lemmas.List.{length_push, map-id}
+use Rattle.std.proofs.lemmas.List.FromFn.{filter_of_map_range_with_len_more}
 use native.Mathlib.Decide.{ℕ_discrete}
 use Rattle.table.specs.Shapes.{counted}
 
@@ -10,12 +13,21 @@ counted_yes f n e = ap (λ b. cond b (suc (counted f n)) (counted f n)) e
 counted_no : (f : ℕ → Bool) (n : ℕ) → f n ≡ false → counted f (suc n) ≡ counted f n
 counted_no f n e = ap (λ b. cond b (suc (counted f n)) (counted f n)) e
 
--- and the count of a loop, where the number n passes, and where it does not
-pub count_yes : (f : ℕ → Bool) (n k m : ℕ) → k ≡ counted f n → f n ≡ true → m ≡ k + 1 → m ≡ counted f (n + 1)
-count_yes f n k m h e d = let z : n + 1 ≡ suc n = omega arith in let y = ap (counted f) z ∙ counted_yes f n e in omega arith
+-- one number more is one more that passes, or none
+more_length : (b : Bool) (xs : List ℕ) (n : ℕ) → length (xs ++ cond b (n ∷ []) []) ≡ cond b (suc (length xs)) (length xs)
+more_length true xs n = length_push xs n ∙ add-one (length xs)
+more_length false xs n = omega (arith, length-append {A = ℕ})
 
-pub count_no : (f : ℕ → Bool) (n k m : ℕ) → k ≡ counted f n → f n ≡ false → m ≡ k → m ≡ counted f (n + 1)
-count_no f n k m h e d = let z : n + 1 ≡ suc n = omega arith in let y = ap (counted f) z ∙ counted_no f n e in omega arith
+-- a count is how many numbers of a range pass
+pub counted_filter : (f : ℕ → Bool) (n : ℕ) → length (filter f (range_with_len 0 n)) ≡ counted f n
+counted_filter f zero = refl
+counted_filter f (suc n) =
+    ap (λ k. length (filter f (range_with_len 0 k))) (sym (add-one n))
+    ∙ ap (λ l. length (filter f l)) (sym (map-id (range_with_len 0 (n + 1))))
+    ∙ ap length (filter_of_map_range_with_len_more f (λ k. k) 0 n n (omega arith))
+    ∙ ap (λ l. length (filter f l ++ cond (f n) (n ∷ []) [])) (map-id (range_with_len 0 n))
+    ∙ more_length (f n) (filter f (range_with_len 0 n)) n
+    ∙ ap (λ k. cond (f n) (suc k) k) (counted_filter f n)
 
 pub truth : (b : Bool) → (b ≡ true → ⊥) → b ≡ false
 truth true h = absurd (h refl)

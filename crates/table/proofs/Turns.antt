@@ -1,9 +1,10 @@
 -- The count of T steps back to a row, one step at a time, on every list of links.
-use Rattle.std.proofs.Common.{◌≡◌, ℕ, zero, suc, ◌+◌, ◌<◌, ◌≤◌, Bool, true, false, cond, eqb, List, length, refl, ap, arith, eq-eqb, ne_eqb}
+use Rattle.std.proofs.Common.{◌≡◌, ℕ, zero, suc, ◌+◌, ◌<◌, ◌≤◌, Bool, true, false, cond, eqb, List, length, refl, ap, ◌∙◌, arith, eq-eqb, ne_eqb}
 use Rattle.modular.specs.declared.letter.Letter.TheVariants.{T}
 use Rattle.table.specs.declared.link.Link.{Link}
 use Rattle.table.specs.Links.{next}
-use Rattle.table.specs.Widths.{back, width}
+use Rattle.std.specs.List.{fold, range_with_len}
+use Rattle.table.specs.Widths.{back, times, width}
 
 -- back at the row, the count stands
 pub back_here : (links : List Link) (n q r k : ℕ) → q ≡ r → back links n q r k ≡ k
@@ -26,3 +27,12 @@ back_range links (suc n) q r k = by (eqb q r) (back_range links n (next links T 
 -- so a width is from 1 to one more than there are links
 pub width_range : (links : List Link) (r : ℕ) → (0 < width links r) × (width links r ≤ length links + 1)
 width_range links r = let h = back_range links (length links) (next links T r) r 1 in (omega arith, omega arith)
+
+-- a range taken as turns steps as often as it is long
+pub times_turn : (f : ℕ → ℕ) (n r : ℕ) → times n f (f r) ≡ f (times n f r)
+times_turn f zero r = refl
+times_turn f (suc n) r = ap f (times_turn f n r)
+
+pub fold_times : (f : ℕ → ℕ) (n a r : ℕ) → fold (λ q _. f q) r (range_with_len a n) ≡ times n f r
+fold_times f zero a r = refl
+fold_times f (suc n) a r = fold_times f n (a + 1) (f r) ∙ times_turn f n r

@@ -6,6 +6,7 @@
 --     Opened R, After R A    an answer or a refusal, and all memory after the call
 --     opened rows links      open, by its test open_by
 --     filling m              fill, by its tests fill_by
+--     FilledOn start t s agrees m n   accepted fills alone lead from the growing table m to n
 --     following m word       follow, for the word of these characters: an answer alone, since it writes nothing
 --     followed links word    follow on a finished table
 --     closing m              close, by its tests close_by: the finished table is the held links; it writes nothing
@@ -23,7 +24,7 @@
 --     leads_to n g l          where the edge of letter g leads among n rows: a target that is not below n counts as empty
 --     walk n links word      follow among n rows
 --     walk_from n links word k r    the same from row r, where k letters are done
-use Rattle.std.specs.Prelude.{ℕ, suc, ◌+◌, ◌*◌, ◌/◌, ◌<◌, ◌≤◌, Bool, true, false, ◌&&◌, List, [], ◌∷◌, length, take, Some, None, Ok, Err, Option, Result, ◌==◌, nat_le, nat_lt, slice_index_or, slice_set}
+use Rattle.std.specs.Prelude.{◌≡◌, ℕ, suc, ◌+◌, ◌*◌, ◌/◌, ◌<◌, ◌≤◌, Bool, true, false, ◌&&◌, List, [], ◌∷◌, length, take, Some, None, Ok, Err, Option, Result, ◌==◌, nat_le, nat_lt, slice_index_or, slice_set}
 use Rattle.modular.specs.declared.letter.Letter.{Letter}
 use Rattle.modular.specs.declared.letter.Letter.TheVariants.{T, S}
 use Rattle.modular.specs.Words.{letter_of}
@@ -166,3 +167,8 @@ module _ {R : Type 0} (start : R) where
 
     abbrev pub filling : After R Filled
     filling = fill_by (as_lent m) (edge_left m) agreed (row_free m)
+
+pub data FilledOn {R : Type 0} (start : R) (t s : R → R) (agrees : R → R → Bool) (m : Growing R) : Growing R → Type 0 where
+  none : FilledOn start t s agrees m m
+  more : (n : Growing R) (a : Filled) → FilledOn start t s agrees m n → (filling start t s agrees n).answer ≡ Ok a
+      → FilledOn start t s agrees m (filling start t s agrees n).memory

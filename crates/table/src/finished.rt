@@ -3,6 +3,7 @@ ghost use Rattle.std.specs.Prelude.{◌≡◌, ◌≤◌, true, length};
 ghost use Rattle.table.specs.SoundTest.{sound};
 
 use crate::link::Link;
+use crate::links::Links;
 
 pub mod acting;
 mod maker;
@@ -31,5 +32,12 @@ impl<'a> Finished<'a> {
         ensures { result.now ≡ self.now.links.now }
     {
         self.links
+    }
+
+    // The same, for reading.
+    fn read(&self) -> Links<'a>
+        ensures { result.links.now ≡ self.now.links.now }
+    {
+        Links::of(self.links)
     }
 }

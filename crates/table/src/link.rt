@@ -1,7 +1,7 @@
 // What a table keeps of a row besides its record.
 ghost use Rattle.std.specs.Prelude.{◌≡◌};
 ghost use Rattle.table.specs.Growing.{aimed};
-ghost use Rattle.table.specs.Links.{aim, at, empty, target_of, next};
+ghost use Rattle.table.specs.Links.{aim, empty, next, target_of};
 
 use modular::letter::Letter;
 
@@ -59,26 +59,12 @@ impl Link {
     }
 }
 
-// The link of a row; an empty one where there is no such row.
-pub(crate) fn at(links: &[Link], row: u16) -> Link
-    ensures { result ≡ at links.now row }
-{
-    let place = usize::from(row);
-    if place < links.len() {
-        links[place]
-    } else {
-        Link::empty(0, Letter::T)
-    }
-}
-
 // Where the step of a letter leads from a row; a number that is no row stays where it is.
 pub fn next(links: &[Link], letter: Letter, row: u16) -> u16
     ensures { result ≡ next links.now letter row }
 {
-    let at = usize::from(row);
-    if at < links.len() {
-        links[at].aim(letter)
-    } else {
-        row
+    match links.get(usize::from(row)) {
+        Some(link) => link.aim(letter),
+        None => row,
     }
 }

@@ -1,9 +1,8 @@
 // The shape of a finished table.
-ghost use Rattle.std.specs.Prelude.{◌≡◌, ◌≤◌, length};
+ghost use Rattle.std.specs.Prelude.{◌≡◌};
 ghost use Rattle.table.specs.Shapes.{is_low, cusps, e2, e3, shape};
 
-use crate::link;
-use crate::link::Link;
+use crate::links::Links;
 use modular::letter::Letter;
 
 // How many rows and T-cycles there are, the rows that S fixes and those that S and then T fix, and twelve times the genus that
@@ -19,14 +18,13 @@ pub struct Shape {
 
 impl Shape {
     // The shape of a table with these links.
-    pub(crate) fn of(links: &[Link]) -> Shape
-        requires { length links.now ≤ 65000 }
-        ensures { result ≡ shape links.now }
+    pub(crate) fn of(links: Links) -> Shape
+        ensures { result ≡ shape links.entry.links.now }
     {
-        let rows = links.len();
-        let cusps = cusps(links);
-        let e2 = e2(links);
-        let e3 = e3(links);
+        let rows = usize::from(links.rows());
+        let cusps = links.cusps();
+        let e2 = links.e2();
+        let e3 = links.e3();
         let genus12 = (12 + rows) as i64 - (3 * e2 + 4 * e3 + 6 * cusps) as i64;
         Shape {
             rows,
@@ -38,59 +36,43 @@ impl Shape {
     }
 }
 
-// Whether a row is the lowest of its T-cycle: T leads back to it before it leads to a lower row.
-fn is_low(links: &[Link], row: u16) -> bool
-    ensures { result ≡ is_low links.now row }
-{
-    let mut at = link::next(links, Letter::T, row);
-    for _ in links {
-        if at <= row {
-            return at == row;
+impl<'a> Links<'a> {
+    // Whether a row is the lowest of its T-cycle: T leads back to it before it leads to a lower row.
+    fn is_low(self, row: u16) -> bool
+        ensures { result ≡ is_low self.entry.links.now row }
+    {
+        let mut at = self.next(Letter::T, row);
+        for _ in 0..self.rows() {
+            if at <= row {
+                return at == row;
+            }
+            at = self.next(Letter::T, at);
         }
-        at = link::next(links, Letter::T, at);
+        true
     }
-    true
-}
 
-// How many T-cycles there are, each counted at its lowest row.
-fn cusps(links: &[Link]) -> usize
-    requires { length links.now ≤ 65000 }
-    ensures { result ≡ cusps links.now }
-{
-    let mut count = 0;
-    for row in 0..links.len() as u16 {
-        if is_low(links, row) {
-            count += 1;
-        }
+    // How many T-cycles there are, each counted at its lowest row.
+    fn cusps(self) -> usize
+        ensures { result ≡ cusps self.entry.links.now }
+    {
+        (0..self.rows()).filter(|row| self.is_low(*row)).count()
     }
-    count
-}
 
-// How many rows S fixes.
-fn e2(links: &[Link]) -> usize
-    requires { length links.now ≤ 65000 }
-    ensures { result ≡ e2 links.now }
-{
-    let mut count = 0;
-    for row in 0..links.len() as u16 {
-        if link::next(links, Letter::S, row) == row {
-            count += 1;
-        }
+    // How many rows S fixes.
+    fn e2(self) -> usize
+        ensures { result ≡ e2 self.entry.links.now }
+    {
+        (0..self.rows())
+            .filter(|row| self.next(Letter::S, *row) == *row)
+            .count()
     }
-    count
-}
 
-// How many rows S and then T fix.
-fn e3(links: &[Link]) -> usize
-    requires { length links.now ≤ 65000 }
-    ensures { result ≡ e3 links.now }
-{
-    let mut count = 0;
-    for row in 0..links.len() as u16 {
-        let half = link::next(links, Letter::S, row);
-        if link::next(links, Letter::T, half) == row {
-            count += 1;
-        }
+    // How many rows S and then T fix.
+    fn e3(self) -> usize
+        ensures { result ≡ e3 self.entry.links.now }
+    {
+        (0..self.rows())
+            .filter(|row| self.s_then_t(*row) == *row)
+            .count()
     }
-    count
 }

@@ -3,8 +3,8 @@ ghost use Rattle.std.specs.Prelude.{◌≡◌};
 ghost use Rattle.std.specs.Str.{chars};
 ghost use Rattle.table.specs.Growing.{leads_to, walk, walk_from};
 
-use crate::link;
 use crate::link::Link;
+use crate::links::Links;
 use crate::refusal::Refusal;
 use modular::letter::Letter;
 
@@ -21,31 +21,31 @@ fn leads_to(count: usize, letter: Letter, link: Link) -> Option<u16>
     }
 }
 
-// The same along all letters of a word, left letter first.
-fn letters(count: usize, links: &[Link], word: &str) -> Result<u16, Refusal>
-    ensures { result ≡ walk_from count links.now (chars word.now) 0 0 }
-{
-    let mut row = 0u16;
-    let mut place = 0usize;
-    for c in word.chars() {
-        let Ok(letter) = Letter::try_from(c) else {
-            return Err(Refusal::NotALetter(place));
-        };
-        let Some(next) = leads_to(count, letter, link::at(links, row)) else {
-            return Err(Refusal::EmptyEdge(place));
-        };
-        row = next;
-        place += 1;
+impl<'a> Links<'a> {
+    // The same along all letters of a word, left letter first.
+    fn letters(self, count: usize, word: &str) -> Result<u16, Refusal>
+        ensures { result ≡ walk_from count self.entry.links.now (chars word.now) 0 0 }
+    {
+        let mut row = 0u16;
+        for (place, c) in word.chars().enumerate() {
+            let Ok(letter) = Letter::try_from(c) else {
+                return Err(Refusal::NotALetter(place));
+            };
+            let Some(next) = leads_to(count, letter, self.at(row)) else {
+                return Err(Refusal::EmptyEdge(place));
+            };
+            row = next;
+        }
+        Ok(row)
     }
-    Ok(row)
-}
 
-// The row to which a word leads from row 0, among the first `count` rows.
-pub fn walk(count: usize, links: &[Link], word: &str) -> Result<u16, Refusal>
-    ensures { result ≡ walk count links.now (chars word.now) }
-{
-    if word.chars().count() > LONGEST {
-        return Err(Refusal::Length);
+    // The row to which a word leads from row 0, among the first `count` rows.
+    pub fn walk(self, count: usize, word: &str) -> Result<u16, Refusal>
+        ensures { result ≡ walk count self.entry.links.now (chars word.now) }
+    {
+        if word.chars().count() > LONGEST {
+            return Err(Refusal::Length);
+        }
+        self.letters(count, word)
     }
-    letters(count, links, word)
 }

@@ -6,7 +6,6 @@ ghost use Rattle.table.specs.Links.{next};
 ghost use Rattle.table.specs.laws.TestedLinks.{sound_laws};
 
 use crate::finished::Finished;
-use crate::link::next;
 use modular::action::Action;
 use modular::letter::Letter;
 
@@ -30,11 +29,11 @@ impl<'a> Action for Finished<'a> {
     }
 
     fn t(&self, row: u16) -> u16 {
-        next(self.links, Letter::T, row)
+        self.read().next(Letter::T, row)
     }
 
     fn s(&self, row: u16) -> u16 {
-        next(self.links, Letter::S, row)
+        self.read().next(Letter::S, row)
     }
 
     fn same(&self, row: u16, other: u16) -> bool {

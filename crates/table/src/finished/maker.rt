@@ -7,8 +7,8 @@ ghost use Rattle.table.specs.SoundTest.{SoundTestTells};
 use crate::finished::Finished;
 use crate::growing::MOST;
 use crate::link::Link;
+use crate::links::Links;
 use crate::refusal::Refusal;
-use crate::soundness::is_sound;
 
 // Whether so many links can be stored as a table.
 fn storable(count: usize) -> bool
@@ -28,7 +28,7 @@ impl<'a> Finished<'a> {
         if !storable(links.len()) {
             return Err(E::from(Refusal::Memory));
         }
-        if !is_sound(links) {
+        if !Links::of(links).is_sound() {
             return Err(E::from(Refusal::Unsound));
         }
         Ok(Finished::of(links))

@@ -7,11 +7,9 @@ ghost use Rattle.table.specs.Questions.{generating, in_rows, measuring, placing,
 ghost use Rattle.table.specs.Shapes.{shape};
 
 use crate::finished::Finished;
-use crate::generator::generator;
+use crate::limit::Limit;
 use crate::refusal::Refusal;
 use crate::shape::Shape;
-use crate::walk::walk;
-use crate::{cycle, placing, spelling};
 use modular::matrix::Matrix;
 
 impl<'a> Finished<'a> {
@@ -26,14 +24,14 @@ impl<'a> Finished<'a> {
     pub fn follow(&self, word: &str) -> Result<u16, Refusal>
         ensures { result ≡ followed self.now.links.now (chars word.now) }
     {
-        walk(self.links.len(), self.links, word)
+        self.read().walk(self.links.len(), word)
     }
 
     // The row to which the words of a matrix of determinant 1 lead.
     pub fn place(&self, m: Matrix) -> Result<u16, Refusal>
         ensures { result ≡ placing self.now.links.now (entries m) }
     {
-        placing::place(self.links, m)
+        self.read().place(m)
     }
 
     // Writes the least word of a row to the start of an output, and answers its length. No later byte is touched.
@@ -41,14 +39,16 @@ impl<'a> Finished<'a> {
         ensures answer { result ≡ (spelling self.now.links.now row out.old).answer }
         ensures out { out.new ≡ (spelling self.now.links.now row out.old).out }
     {
-        spelling::spell(self.links, row, out)
+        self.read().spell(row, out)
     }
 
-    // The generator with a number, counted from 0, with no entry on the way or in the result beyond the limit.
+    // The generator with a number, counted from 0: there is one more than there are rows. It is given with no entry on the way or in the result beyond the limit.
     pub fn generator(&self, number: usize, limit: u64) -> Result<Matrix, Refusal>
         ensures { result ≡ in_rows (generating self.now.links.now number limit) }
     {
-        generator(self.links, number, limit)
+        let edge = self.read().other_edge(number).ok_or(Refusal::NoSuch)?;
+        let limit = Limit::new(limit)?;
+        limit.edge_matrix(self.read(), edge).ok_or(Refusal::Wide)
     }
 
     // The length of the T-cycle of a row.
@@ -58,13 +58,13 @@ impl<'a> Finished<'a> {
         if usize::from(row) >= self.links.len() {
             return Err(Refusal::NoSuch);
         }
-        Ok(cycle::width(self.links, row))
+        Ok(self.read().width(row))
     }
 
     // Rows, cusps, fixed rows and genus.
     pub fn shape(&self) -> Shape
         ensures { result ≡ shape self.now.links.now }
     {
-        Shape::of(self.links)
+        Shape::of(self.read())
     }
 }

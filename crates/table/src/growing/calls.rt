@@ -1,18 +1,17 @@
 // The calls of a growing table: a file of its own, since what they promise is about the table's parts.
 ghost use Rattle.std.specs.Prelude.{◌≡◌, IfErr, Ok, Err, MatchResult};
 ghost use Rattle.std.specs.Str.{chars};
-ghost use Rattle.table.specs.Growing.{closing, filling, following, lendable, moment, opened};
+ghost use Rattle.table.specs.Growing.{FilledOn, closing, filling, following, lendable, moment, opened};
 ghost use Rattle.table.specs.Runs.{EveryRunFromOpen};
 
 use crate::counts::{Counts, Filled};
-use crate::edges::letter_at;
+use crate::edges::Edge;
 use crate::finished::Finished;
 use crate::growing::rows::sought;
 use crate::growing::{Growing, MOST};
 use crate::link::Link;
+use crate::links::Links;
 use crate::refusal::Refusal;
-use crate::soundness::is_sound;
-use crate::walk::walk;
 use modular::acting::step;
 use modular::action::Action;
 use modular::letter::Letter;
@@ -58,18 +57,17 @@ impl<A: Action> Growing<A> {
         ensures action { self.new.action ≡ self.old.action }
     {
         let Counts { size, held, filled } = self.counts;
-        if rows.len() != size || links.len() != size {
+        if !self.counts.are_of(rows.len(), links.len()) {
             return Err(Refusal::Memory);
         }
         if filled >= 2 * held {
             return Err(Refusal::NoEdgeLeft);
         }
-        let row = filled / 2;
-        let letter = letter_at(filled);
-        let made = step(&self.action, rows[row], letter);
-        let found = sought(&self.action, &rows[0..held], made);
-        if found < held {
-            links[row] = links[row].aimed(letter, found as u16);
+        let edge = Edge::numbered(filled);
+        let row = usize::from(edge.row);
+        let made = step(&self.action, rows[row], edge.letter);
+        if let Some(found) = sought(&self.action, &rows[0..held], made) {
+            links[row] = links[row].aimed(edge.letter, found as u16);
             self.counts.filled = filled + 1;
             return Ok(Filled {
                 row: found,
@@ -80,8 +78,8 @@ impl<A: Action> Growing<A> {
             return Err(Refusal::NoFreeRow);
         }
         rows[held] = made;
-        links[held] = Link::empty(row as u16, letter);
-        links[row] = links[row].aimed(letter, held as u16);
+        links[held] = Link::empty(edge.row, edge.letter);
+        links[row] = links[row].aimed(edge.letter, held as u16);
         self.counts = Counts {
             size,
             held: held + 1,
@@ -93,15 +91,27 @@ impl<A: Action> Growing<A> {
         })
     }
 
+    // Fills edges until a fill is declined, and answers why it was.
+    pub fn fill_up(&mut self, rows: &mut [A::Record], links: &mut [Link]) -> Refusal
+        ensures way { FilledOn (A.start self.old.action) (A.step_t self.old.action) (A.step_s self.old.action) (A.agrees self.old.action) (moment self.old.counts rows.old links.old) (moment self.new.counts rows.new links.new) }
+        ensures end { (filling (A.start self.old.action) (A.step_t self.old.action) (A.step_s self.old.action) (A.agrees self.old.action) (moment self.new.counts rows.new links.new)).answer ≡ Err result }
+        ensures action { self.new.action ≡ self.old.action }
+    {
+        loop {
+            if let Err(refusal) = self.fill(rows, links) {
+                return refusal;
+            }
+        }
+    }
+
     // The row to which a word leads from row 0. It writes nothing.
     pub fn follow(&self, rows: &[A::Record], links: &[Link], word: &str) -> Result<u16, Refusal>
         ensures { result ≡ following (moment self.now.counts rows.now links.now) (chars word.now) }
     {
-        let Counts { size, held, .. } = self.counts;
-        if rows.len() != size || links.len() != size {
+        if !self.counts.are_of(rows.len(), links.len()) {
             return Err(Refusal::Memory);
         }
-        walk(held, links, word)
+        Links::of(links).walk(self.counts.held, word)
     }
 }
 
@@ -115,15 +125,15 @@ impl<A: Action + Drop> Growing<A> {
         ensures answer { MatchResult result (λ f. closing (moment self.counts rows.now links.now) ≡ Ok f.links.now) (λ p. closing (moment self.counts rows.now links.now) ≡ Err p.1) }
         ensures back { IfErr result (λ p. (p.0.action ≡ self.action) × (p.0.counts ≡ self.counts)) }
     {
-        let Counts { size, held, filled } = self.counts;
-        if rows.len() != size || links.len() != size {
+        let Counts { held, filled, .. } = self.counts;
+        if !self.counts.are_of(rows.len(), links.len()) {
             return Err((self, Refusal::Memory));
         }
         if filled < 2 * held {
             return Err((self, Refusal::Unfilled));
         }
         let held_links = &links[0..held];
-        if !is_sound(held_links) {
+        if !Links::of(held_links).is_sound() {
             return Err((self, Refusal::Unsound));
         }
         Ok(Finished::of(held_links))

@@ -18,12 +18,12 @@ pub returns-then-not-is_sound : goal.returns-then-not-is_sound
 returns-then-not-is_sound g c =
     let links = c.args.links.now in
     let few = sym c.storable.ensures ∙ c.if-not-storable.false in
-    let good = sym c.is_sound.ensures ∙ c.if-not-is_sound.true in
+    let good = ap sound (sym c.of.ensures) ∙ sym c.is_sound.ensures ∙ c.if-not-is_sound.true in
     record { answer = (Unsound, (λ i. store_by (few i) (good i) links), c.from-then-not-is_sound.ensures); every_list = every_stored_list; law = sound_links_law; test = sound_tells }
 
 pub returns : goal.returns
 returns g c =
     let links = c.args.links.now in
     let few = sym c.storable.ensures ∙ c.if-not-storable.false in
-    let good = sym c.is_sound.ensures ∙ c.if-not-is_sound.false in
-    record { answer = (λ i. store_by (few i) (good i) links) ∙ ap Ok (sym c.of.ensures); every_list = every_stored_list; law = sound_links_law; test = sound_tells }
+    let good = ap sound (sym c.of.ensures) ∙ sym c.is_sound.ensures ∙ c.if-not-is_sound.false in
+    record { answer = (λ i. store_by (few i) (good i) links) ∙ ap Ok (sym c.of-2.ensures); every_list = every_stored_list; law = sound_links_law; test = sound_tells }

@@ -13,10 +13,10 @@ at_most f n k h e = omega (arith, counted_most f n)
 
 few : (c : goal.After-e3-e3) → (c.cusps-cusps.result ≤ 65000) × (c.e2-e2.result ≤ 65000) × (c.e3-e3.result ≤ 65000)
 few c =
-    let links = c.args.links.now in (
-      at_most (is_low links) (length links) _ c.requires c.cusps-cusps.ensures,
-      at_most (λ r. eqb (next links S r) r) (length links) _ c.requires c.e2-e2.ensures,
-      at_most (λ r. eqb (next links T (next links S r)) r) (length links) _ c.requires c.e3-e3.ensures,
+    let links = c.args.links.links.now in (
+      at_most (is_low links) (length links) _ c.args.links.few c.cusps-cusps.ensures,
+      at_most (λ r. eqb (next links S r) r) (length links) _ c.args.links.few c.e2-e2.ensures,
+      at_most (λ r. eqb (next links T (next links S r)) r) (length links) _ c.args.links.few c.e3-e3.ensures,
     )
 
 pub overflow_mul-genus12 : goal.overflow_mul-genus12
@@ -43,9 +43,10 @@ overflow_sub-genus12 c = let h = few c in omega (arith, ints)
 pub returns : goal.returns
 returns c =
     let h = few c in
-    let n = length c.args.links.now in
+    let n = c.from-rows.result in
+    let e : n ≡ length c.args.links.links.now = omega arith in
     let fits : SFits w64 (to_z w64 (12 + n) -ℤ to_z w64 (3 * c.e2-e2.result + 4 * c.e3-e3.result + 6 * c.cusps-cusps.result)) = omega (arith, ints) in
     let cast = to_z_pos w64 (12 + n) (omega arith) in
     let cast-2 = to_z_pos w64 (3 * c.e2-e2.result + 4 * c.e3-e3.result + 6 * c.cusps-cusps.result) (omega arith) in
-    let genus = to_z-of_z fits ∙ (λ i. cast i -ℤ cast-2 i) ∙ (λ i. pos (12 + n) -ℤ pos (3 * c.e2-e2.ensures i + 4 * c.e3-e3.ensures i + 6 * c.cusps-cusps.ensures i)) in
-    λ i. record { rows = n; cusps = c.cusps-cusps.ensures i; e2 = c.e2-e2.ensures i; e3 = c.e3-e3.ensures i; genus12 = genus i }
+    let genus = to_z-of_z fits ∙ (λ i. cast i -ℤ cast-2 i) ∙ (λ i. pos (12 + e i) -ℤ pos (3 * c.e2-e2.ensures i + 4 * c.e3-e3.ensures i + 6 * c.cusps-cusps.ensures i)) in
+    λ i. record { rows = e i; cusps = c.cusps-cusps.ensures i; e2 = c.e2-e2.ensures i; e3 = c.e3-e3.ensures i; genus12 = genus i }

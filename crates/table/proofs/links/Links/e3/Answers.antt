@@ -1,0 +1,16 @@
+-- The rows that pass are those of the definition.
+use Rattle.std.proofs.Common.{ℕ, Bool, eqb, length, ◌∙◌, arith, rules, tests}
+use Rattle.std.proofs.lemmas.Iterator.{YieldsList-from_range}
+use Rattle.std.proofs.lemmas.Iterator.Consumers.{YieldsList-from_filter, count_from_yields_List}
+use Rattle.modular.specs.declared.letter.Letter.TheVariants.{T, S}
+use Rattle.table.specs.Links.{next}
+use Rattle.table.proofs.Tallies.{counted_filter}
+use Rattle.table.proofs.links.Links.e3.Goals as goal
+
+pub returns : goal.returns
+returns c =
+    let test : ℕ → Bool = λ r. eqb (next c.args.self.links.now T (next c.args.self.links.now S r)) r in
+    let n = length c.args.self.links.now in
+    count_from_yields_List c.filter.result _ c.count.ensures.ran
+    (YieldsList-from_filter _ test (YieldsList-from_range 0 c.rows.result n c.filter.ensures.source (omega arith)) c.filter.ensures.closure (λ x b q k. search (rules, tests)))
+    ∙ counted_filter test n

@@ -1,0 +1,41 @@
+-- Each turn writes the last letter that is not written yet, and goes to the parent.
+use Rattle.std.proofs.Common.{◌≡◌, ◌+◌, ◌-◌, ◌<◌, ◌++◌, length, get_or, take, drop, set, sym, ap, ◌∙◌, arith}
+use Rattle.std.proofs.lemmas.List.{take_all, get_or-map, length-map}
+use Rattle.modular.specs.declared.letter.Letter.TheVariants.{T}
+use Rattle.table.specs.Acting.{spelled, word_of}
+use Rattle.table.specs.Links.{at}
+use Rattle.table.specs.Questions.{character, characters}
+use Rattle.table.proofs.Spelt.{spelled_last, written_before, written_none, written_all}
+use Rattle.table.proofs.links.Links.write_word.Goals as goal
+
+pub loop-k-init : goal.loop-k-init
+loop-k-init c =
+    let links = c.args.self.links.now in
+    let w = word_of links c.args.row in
+    let out = c.args.out.now in
+    let e : c.args.row - (length out - length out) ≡ c.args.row = omega arith in
+    let n = length-map w character in (
+      ap (λ f. spelled links f c.args.row) e ∙ sym (take_all (length out) w (omega (arith, c.requires))),
+      written_none out (characters w) (length out) (omega arith) (omega (arith, n, c.requires)),
+    )
+
+pub loop-k-preserved : goal.loop-k-preserved
+loop-k-preserved c =
+    let links = c.args.self.links.now in
+    let w = word_of links c.args.row in
+    let out = c.args.out.now in
+    let j = c.loop-k.k - 1 in
+    let e : c.loop-k.k ≡ j + 1 = omega (arith, c.loop-k-test.true) in
+    let l : j < length w = omega (arith, c.requires, c.loop-k.auto.k, c.loop-k-test.true) in
+    let f : c.args.row - (length out - c.loop-k.k) - 1 ≡ c.args.row - (length out - j) = omega (arith, c.loop-k.auto.k, c.loop-k-test.true) in
+    let s = spelled_last links (c.args.row - (length out - c.loop-k.k)) c.loop-k.q j w l (c.loop-k.invariant.0 ∙ ap (λ i. take i w) e) in
+    let x : get_or (characters w) j 0 ≡ c.character.result = get_or-map character w j T 0 l ∙ ap character (sym s.1 ∙ ap (λ r. r.letter) (sym c.at-reached.ensures)) ∙ sym c.character.ensures in (
+      ap (λ r. spelled links (c.args.row - (length out - j)) r.parent) c.at-reached.ensures ∙ sym (ap (λ i. spelled links i (at links c.loop-k.q).parent) f) ∙ s.0,
+      ap (λ o. set o j c.character.result) (c.loop-k.invariant.1 ∙ ap (λ i. take i out ++ drop i (characters w)) e)
+          ∙ written_before out (characters w) j c.character.result (omega (arith, c.requires, c.loop-k.auto.k, c.loop-k-test.true)) (omega (arith, l, length-map w character)) x,
+    )
+
+pub returns : goal.returns
+returns c =
+    let w = characters (word_of c.args.self.links.now c.args.row) in
+    c.loop-k.invariant.1 ∙ written_all c.args.out.now w c.loop-k.k c.loop-k-test.false
