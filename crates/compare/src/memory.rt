@@ -1,5 +1,4 @@
 // Memory for a table, and how a table is grown in it.
-use anyhow::anyhow;
 use modular::action::Action;
 use modular::letter::Letter;
 use std::alloc::{AllocError, Global};
@@ -38,7 +37,7 @@ impl<A: Action> Memory<A> {
     {
         match Growing::open(action, &mut self.rows, &mut self.links) {
             Ok(table) => Ok(table),
-            Err((_, refusal)) => Err(anyhow!("no table in this memory: {}", refusal.number())),
+            Err((_, refusal)) => Err(refusal.into()),
         }
     }
 
@@ -61,7 +60,7 @@ impl<A: Action> Memory<A> {
         self.fill(&mut table);
         match table.close(&self.rows, &self.links) {
             Ok(finished) => Ok(finished),
-            Err((_, refusal)) => Err(anyhow!("the table is not finished: {}", refusal.number())),
+            Err((_, refusal)) => Err(refusal.into()),
         }
     }
 }

@@ -2,31 +2,33 @@
 ghost use Rattle.std.specs.Prelude.{◌≡◌};
 ghost use Rattle.table.specs.Refusals.{number_of, place_of};
 
-#[derive(Clone, Copy, Debug, PartialEq, Eq)]
+use thiserror::Error;
+
+#[derive(Clone, Copy, Debug, PartialEq, Eq, Error)]
 pub enum Refusal {
-    // an entry or an entry limit is out of range
+    #[error("an entry or an entry limit is out of range")]
     Range,
-    // the determinant is not 1
+    #[error("the determinant is not 1")]
     Determinant,
-    // rows and links are none, too many, unequal, or not as many as at open
+    #[error("rows and links are none, too many, unequal, or not as many as at open")]
     Memory,
-    // a new record and no free row
+    #[error("a new record and no free row")]
     NoFreeRow,
-    // every edge is filled
+    #[error("every edge is filled")]
     NoEdgeLeft,
-    // an edge is not filled
+    #[error("an edge is not filled")]
     Unfilled,
-    // the links are not sound
+    #[error("the links are not sound")]
     Unsound,
-    // neither T nor S, at this place of a word
+    #[error("neither T nor S at place {0} of the word")]
     NotALetter(usize),
-    // the edge that the letter at this place follows is not filled
+    #[error("the edge that the letter at place {0} follows is not filled")]
     EmptyEdge(usize),
-    // a word that is too long, or an output that is too short for its word
+    #[error("a word that is too long, or an output that is too short for its word")]
     Length,
-    // no such row or generator
+    #[error("no such row or generator")]
     NoSuch,
-    // an entry beyond the limit
+    #[error("an entry beyond the limit")]
     Wide,
 }
 
