@@ -1,5 +1,4 @@
-use Rattle.std.proofs.Common.{◌≡◌, ◌<◌, sym, ap, ◌∙◌, arith}
-use Rattle.numbers.specs.Gcd.{gcd}
+use Rattle.std.proofs.Common.{◌<◌, ◌∙◌, arith}
 use Rattle.levels.proofs.Euclid.{gcd_step}
 use Rattle.levels.proofs.level.gcd.Goals as goal
 

@@ -1,7 +1,7 @@
-use Rattle.std.proofs.Common.{◌≡◌, ◌-◌, ◌≤◌, get_or, refl, subst, arith}
+use Rattle.std.proofs.Common.{◌≡◌, refl, subst, arith}
 use Rattle.origami.specs.Listings.{target}
-use Rattle.origami.proofs.Filled.{Filled, filled_more, filled_all}
-use Rattle.origami.proofs.Listings.{Seen, seen_more, seen_all, seen_twice}
+use Rattle.origami.proofs.Filled.{Filled, filled_all}
+use Rattle.origami.proofs.Listings.{Seen, seen_all, seen_twice}
 use Rattle.origami.proofs.listing.permutation.Goals as goal
 use Rattle.origami.proofs.listing.permutation.Goals.{then-n-eq0-via-then-n-eq0, then-n-eq0-via-else-n-eq0+then-n-degree, then-n-eq0-via-else-n-eq0+else-n-degree+then-seen-n}
 

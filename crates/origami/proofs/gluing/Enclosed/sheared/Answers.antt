@@ -1,8 +1,7 @@
-use Rattle.std.proofs.Common.{◌≡◌, ℕ, List, sym, refl, subst, arith}
+use Rattle.std.proofs.Common.{◌≡◌, ℕ, List, subst, arith}
 use Rattle.origami.specs.declared.gluing.Gluing.{Gluing}
-use Rattle.origami.specs.Gluings.{right_of, up_of, Inside, sheared}
-use Rattle.origami.proofs.Filled.{Filled, filled_more, filled_all}
-use Rattle.origami.proofs.Insides.{sheared_inside}
+use Rattle.origami.specs.Gluings.{right_of, up_of, sheared}
+use Rattle.origami.proofs.Filled.{Filled, filled_all}
 use Rattle.origami.proofs.gluing.Enclosed.sheared.Goals as goal
 
 -- the entries that the loop wrote

@@ -1,7 +1,7 @@
 use Rattle.std.proofs.Common.{◌≡◌, ℕ, List, sym, subst, arith}
 use Rattle.origami.specs.declared.gluing.Gluing.{Gluing}
 use Rattle.origami.specs.Gluings.{right_of, Inside, turned}
-use Rattle.origami.proofs.Filled.{Undoing, undoing_more, undoing_all}
+use Rattle.origami.proofs.Filled.{Undoing, undoing_all}
 use Rattle.origami.proofs.Insides.{turned_inside}
 use Rattle.origami.proofs.gluing.Enclosed.turned.Goals as goal
 

@@ -1,7 +1,6 @@
-use Rattle.std.proofs.Common.{◌≡◌, ◌<◌, true, sym, ◌∙◌, refl, subst, inl, inr, add-one, arith}
-use Rattle.std.proofs.lemmas.Bool.{and_from}
+use Rattle.std.proofs.Common.{◌≡◌, ◌<◌, true, sym, ◌∙◌, refl, subst, inl, inr, arith}
 use Rattle.origami.specs.Origamis.{inside_below}
-use Rattle.origami.proofs.Insides.{met, inside_facts, none_inside, many_inside, unmet_inside, met_inside}
+use Rattle.origami.proofs.Insides.{inside_facts, none_inside, many_inside, unmet_inside, met_inside}
 use Rattle.origami.proofs.gluing.Gluing.enclosed.Goals as goal
 
 pub returns-then-self-eq0 : goal.returns-then-self-eq0

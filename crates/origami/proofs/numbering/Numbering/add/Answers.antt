@@ -1,5 +1,5 @@
 use Rattle.std.proofs.Common.{◌≡◌, length, rules}
-use Rattle.origami.proofs.Marks.{none_is, some_is, holds_old, holds_new}
+use Rattle.origami.proofs.Marks.{none_is, holds_new}
 use Rattle.origami.proofs.numbering.Numbering.add.Goals as goal
 
 pub returns-then-is_none : goal.returns-then-is_none
