@@ -1,5 +1,5 @@
 // Growing the whole table of an action, and listing it.
-ghost use Rattle.std.specs.Prelude.{◌≡◌, map, length, IfOk, vec_len};
+ghost use Rattle.std.specs.Prelude.{◌≡◌, map, length};
 ghost use Rattle.listing.specs.Grown.{Finishes, GrownIn, GrownOr};
 ghost use Rattle.modular.specs.Matrix.{entries};
 ghost use Rattle.table.specs.Growing.{moment};
@@ -9,20 +9,9 @@ use crate::listing;
 use modular::action::Action;
 use modular::letter::Letter;
 use modular::matrix::Matrix;
-use std::alloc::{AllocError, Global};
+use std::alloc::Global;
 use table::growing::Growing;
 use table::link::Link;
-
-// A list of so many values, all alike.
-fn alike<T: Copy>(heap: Global, x: T, count: usize) -> Result<Vec<T>, AllocError>
-    ensures { IfOk result (λ v. vec_len v ≡ count) }
-{
-    let mut list = Vec::new(heap);
-    for _ in 0..count {
-        list.push(x)?;
-    }
-    Ok(list)
-}
 
 // Fills a table that was just opened, closes it, and lists it.
 fn finish<A: Action + Drop>(
@@ -66,7 +55,7 @@ pub fn list<A: Action + Drop>(
 ) -> Result<String, Error>
     ensures { GrownOr (A.start action) (A.step_t action) (A.step_s action) room (map entries matrices.now) result }
 {
-    let mut rows = alike(heap, action.first(), room)?;
-    let mut links = alike(heap, Link::empty(0, Letter::T), room)?;
+    let mut rows = vec![in heap; action.first(); room]?;
+    let mut links = vec![in heap; Link::empty(0, Letter::T); room]?;
     grow(heap, action, &mut rows, &mut links, matrices)
 }

@@ -1,6 +1,0 @@
--- One value for each turn.
-use Rattle.std.proofs.Common.{◌≡◌, vec_len}
-use Rattle.listing.proofs.grown.alike.Given as goal
-
-abbrev pub invariant-loop : goal.invariant-loop
-invariant-loop g l = vec_len l.list ≡ l.counter
