@@ -16,12 +16,3 @@ printed-word-requires c =
     let links = c.args.table.now.links.now in
     let word = spell_word links c.args.row c.args.out.now c.requires.there c.requires.room _ _ _ c.spell.ensures.answer c.unwrap-count.ensures c.spell.ensures.out in
     subst IsAscii (sym word) (ascii_word (word_of links c.args.row))
-
-pub returns : goal.returns
-returns c =
-    let links = c.args.table.now.links.now in
-    let r = c.args.row in
-    let t = c.next-t.ensures ∙ ap (λ l. next l T r) c.links-links.ensures in
-    let s = c.next-s.ensures ∙ ap (λ l. next l S r) c.links-links.ensures in
-    let word = spell_word links r c.args.out.now c.requires.there c.requires.room _ _ _ c.spell.ensures.answer c.unwrap-count.ensures c.spell.ensures.out in
-    added c.writeln.result _ _ _ _ (row_written links r _ _ _ t s (c.printed-word.ensures ∙ ap word_field word)) c.writeln.ensures.bytes

@@ -7,10 +7,3 @@ use Rattle.listing.proofs.parts.generators.Goals as goal
 pub loop-number-preserved : goal.loop-number-preserved
 loop-number-preserved c =
     each_more (generator_line c.args.table.now.links.now) c.loop-number.number _ _ _ c.loop-number.invariant c.in_ok-generator_line.ensures
-
-pub returns-in_ok-generator_line : goal.returns-in_ok-generator_line
-returns-in_ok-generator_line c =
-    let links = c.args.table.now.links.now in
-    let last : c.loop-number.number ≡ length links = omega arith in
-    let all = each_more (generator_line links) c.loop-number.number _ _ _ c.loop-number.invariant c.in_ok-generator_line.ensures in
-    subst (λ n. string_bytes c.generator_line.new.text ≡ string_bytes c.args.text.now ++ each (generator_line links) (n + 1)) last all
