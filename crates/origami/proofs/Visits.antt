@@ -1,5 +1,6 @@
 -- A visit to a square while the squares of a gluing are numbered.
-use Rattle.std.proofs.Common.{◌≡◌, ℕ, ◌+◌, ◌<◌, List, get_or, sym, subst, add-one, arith}
+use Rattle.std.proofs.Common.{◌≡◌, ℕ, ◌+◌, ◌<◌, List, length, take, get_or, sym, subst, add-one, arith}
+use Rattle.std.proofs.lemmas.List.{get_or-take, length-take}
 use Rattle.origami.specs.declared.gluing.Gluing.{Gluing}
 use Rattle.origami.specs.declared.numbering.Numbering.{Numbering}
 use Rattle.origami.specs.Gluings.{right_of, up_of, Inside}
@@ -35,3 +36,11 @@ module _ (g : Gluing) (i : Inside g) (x : ℕ) (lx : x < g.degree) (n : ℕ) whe
 
     pub visit : (m : Numbering) → Holds x (added (up_of g z) (added (right_of g z) (squares g x n))) m → Holds x (squares g x (n + 1)) m
     visit m h = rw add-one (subst (λ y. Holds x (added (up_of g y) (added (right_of g y) (squares g x n))) m) e h)
+
+  -- the entries of the order up to the degree are squares
+  pub entry : (m : Numbering) → Holds x (squares g x n) m → length m.order ≡ 16 → (k : ℕ) → k < length (take g.degree m.order)
+      → (k < 16) × (get_or (take g.degree m.order) k 0 ≡ get_or m.order k 0) × (get_or (take g.degree m.order) k 0 < g.degree)
+  entry m h long k l =
+      let b : (k < 16) × (k < g.degree) = (omega (arith, length-take g.degree m.order), omega (arith, length-take g.degree m.order)) in
+      let e = get_or-take g.degree m.order k 0 b.1 in
+      (b.0, e, omega (arith, e, held_below m h k b.0))

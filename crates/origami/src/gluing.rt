@@ -53,10 +53,9 @@ impl Enclosed {
         ensures { result.gluing ≡ sheared self.gluing }
     {
         let g = self.gluing;
-        // A loop with its index, here and below: array::from_fn was tried, and its clause forgets what the closure captured.
         let mut up = [0; 16];
-        for i in 0..g.degree as usize {
-            up[i] = g.up[g.right[i] as usize];
+        for (i, right) in g.right[..g.degree as usize].iter().enumerate() {
+            up[i] = g.up[*right as usize];
         }
         Enclosed {
             gluing: Gluing { up, ..g },
@@ -69,8 +68,8 @@ impl Enclosed {
     {
         let g = self.gluing;
         let mut up = [0; 16];
-        for i in 0..g.degree {
-            up[g.right[i as usize] as usize] = i;
+        for (square, right) in g.right[..g.degree as usize].iter().enumerate() {
+            up[*right as usize] = square as u8;
         }
         Enclosed {
             gluing: Gluing {

@@ -29,6 +29,7 @@ impl Numbering {
             number,
             count: 1,
         };
+        // By its index, since the order grows while it is gone through.
         for i in 0..g.degree as usize {
             let square = n.order[i] as usize;
             let (right, up) = (g.right[square], g.up[square]);
@@ -76,10 +77,9 @@ impl Enclosed {
         let n = Numbering::new(self, first);
         let mut right = [0; 16];
         let mut up = [0; 16];
-        for i in 0..g.degree as usize {
-            let square = n.order[i] as usize;
-            right[i] = n.of(g.right[square]);
-            up[i] = n.of(g.up[square]);
+        for (i, square) in n.order[..g.degree as usize].iter().enumerate() {
+            right[i] = n.of(g.right[*square as usize]);
+            up[i] = n.of(g.up[*square as usize]);
         }
         Gluing { right, up, ..g }
     }

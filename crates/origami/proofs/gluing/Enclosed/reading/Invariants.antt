@@ -6,5 +6,5 @@ use Rattle.origami.proofs.gluing.Enclosed.reading.Given as goal
 
 abbrev pub invariant-loop-i : goal.invariant-loop-i
 invariant-loop-i l =
-    Filled l.i (renumbered (right_of l.g) l.first (order l.g l.first)) l.right
-    × Filled l.i (renumbered (up_of l.g) l.first (order l.g l.first)) l.up
+    Filled l.i (renumbered (right_of l.fn.self.gluing) l.fn.first (order l.fn.self.gluing l.fn.first)) l.right
+    × Filled l.i (renumbered (up_of l.fn.self.gluing) l.fn.first (order l.fn.self.gluing l.fn.first)) l.up

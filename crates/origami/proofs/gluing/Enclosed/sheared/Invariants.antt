@@ -3,4 +3,4 @@ use Rattle.origami.proofs.Filled.{Filled}
 use Rattle.origami.proofs.gluing.Enclosed.sheared.Given as goal
 
 abbrev pub invariant-loop-i : goal.invariant-loop-i
-invariant-loop-i l = Filled l.i (λ k. up_of l.g (right_of l.g k)) l.up
+invariant-loop-i l = Filled l.i (λ k. up_of l.fn.self.gluing (right_of l.fn.self.gluing k)) l.up

@@ -12,11 +12,11 @@ made g i up e u = undoing_all g.degree (right_of g) up (subst (λ n. Undoing g.d
 pub invariant_of-result : goal.invariant_of-result
 invariant_of-result c =
     let g = c.args.self.gluing in
-    let up = made g c.loop-i.i c.loop-i.up (omega arith) c.loop-i.invariant in
+    let up = made g c.loop-square.square c.loop-square.up (omega arith) c.loop-square.invariant in
     record { ok = subst (λ up. Inside (record { degree = g.degree; right = g.up; up = up })) (sym up) (turned_inside g c.args.self.ok) }
 
 pub returns : goal.returns
 returns c =
     let g = c.args.self.gluing in
-    let up = made g c.loop-i.i c.loop-i.up (omega arith) c.loop-i.invariant in
+    let up = made g c.loop-square.square c.loop-square.up (omega arith) c.loop-square.invariant in
     λ t. record { degree = g.degree; right = g.up; up = up t }
