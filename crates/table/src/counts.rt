@@ -12,14 +12,15 @@ pub struct Counts {
 
 impl Counts {
     // Whether so many rows and links are as many as at open.
-    pub(crate) fn are_of(self, rows: usize, links: usize) -> bool
+    pub(crate) fn as_lent(self, rows: usize, links: usize) -> bool
         ensures { result ≡ (rows == self.size && links == self.size) }
     {
         rows == self.size && links == self.size
     }
 }
 
-// The row to which the filled edge leads, and whether it is a new one.
+// The row to which the filled edge leads, and whether it is a new one. Every fill has both, so it is no enum: callers read the
+// row of each.
 #[derive(Clone, Copy, Debug, PartialEq, Eq)]
 pub struct Filled {
     pub row: usize,

@@ -18,13 +18,9 @@ pub struct Limit {
 
 impl Limit {
     // The largest limit.
-    pub fn largest() -> Limit
-        ensures { result.most ≡ 1000000000 }
-    {
-        Limit {
-            most: 1_000_000_000,
-        }
-    }
+    pub const LARGEST: Limit = Limit {
+        most: 1_000_000_000,
+    };
 
     // A limit of so much, if that is in range.
     pub fn new(most: u64) -> Result<Limit, Refusal>
@@ -32,7 +28,7 @@ impl Limit {
             (λ l. (l.most ≡ most) × ((nat_lt 0 most && nat_le most 1000000000) ≡ true))
             (λ e. (e ≡ Refusal.Range) × ((nat_lt 0 most && nat_le most 1000000000) ≡ false)) }
     {
-        if 0 < most && most <= 1_000_000_000 {
+        if 0 < most && most <= Limit::LARGEST.most {
             Ok(Limit { most })
         } else {
             Err(Refusal::Range)

@@ -5,7 +5,7 @@ ghost use Rattle.table.specs.Links.{aim, empty, next, target_of};
 
 use modular::letter::Letter;
 
-// No row: the edge is not filled yet.
+// No row: the edge is not filled yet. A link has a fixed size, so this number stands for none; `target` tells it as an option.
 pub const EMPTY: u16 = 65_535;
 
 // Where the two edges of a row lead, and the edge by which the row was first reached.

@@ -46,7 +46,7 @@ impl<'a> Links<'a> {
     pub fn place(self, m: Matrix) -> Result<u16, Refusal>
         ensures { result ≡ placing self.entry.links.now (entries m) }
     {
-        if !Limit::largest().holds(m) {
+        if !Limit::LARGEST.holds(m) {
             return Err(Refusal::Range);
         }
         if matrix::determinant(m) != 1 {

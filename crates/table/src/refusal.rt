@@ -53,7 +53,7 @@ impl Refusal {
         }
     }
 
-    // The letter at fault, counted from 0; 0 where no letter is.
+    // The letter at fault, counted from 0; 0 where no letter is, as it is printed.
     pub fn place(self) -> usize
         ensures { result ≡ place_of self }
     {

@@ -7,7 +7,7 @@ use crate::links::Links;
 use crate::refusal::Refusal;
 use modular::letter::Letter;
 
-// The character of a letter.
+// The character of a letter. `generator` reads it back; neither type is of this crate, so neither way is a `From`.
 fn character(letter: Letter) -> u8
     ensures { result ≡ character letter }
 {

@@ -42,7 +42,8 @@ impl<'a> Finished<'a> {
         self.read().spell(row, out)
     }
 
-    // The generator with a number, counted from 0: there is one more than there are rows. It is given with no entry on the way or in the result beyond the limit.
+    // The generator with a number, counted from 0, with no entry on the way or in the result beyond the limit: there is one
+    // more than there are rows.
     pub fn generator(&self, number: usize, limit: u64) -> Result<Matrix, Refusal>
         ensures { result ≡ in_rows (generating self.now.links.now number limit) }
     {

@@ -57,7 +57,7 @@ impl<A: Action> Growing<A> {
         ensures action { self.new.action ≡ self.old.action }
     {
         let Counts { size, held, filled } = self.counts;
-        if !self.counts.are_of(rows.len(), links.len()) {
+        if !self.counts.as_lent(rows.len(), links.len()) {
             return Err(Refusal::Memory);
         }
         if filled >= 2 * held {
@@ -108,7 +108,7 @@ impl<A: Action> Growing<A> {
     pub fn follow(&self, rows: &[A::Record], links: &[Link], word: &str) -> Result<u16, Refusal>
         ensures { result ≡ following (moment self.now.counts rows.now links.now) (chars word.now) }
     {
-        if !self.counts.are_of(rows.len(), links.len()) {
+        if !self.counts.as_lent(rows.len(), links.len()) {
             return Err(Refusal::Memory);
         }
         Links::of(links).walk(self.counts.held, word)
@@ -126,7 +126,7 @@ impl<A: Action + Drop> Growing<A> {
         ensures back { IfErr result (λ p. (p.0.action ≡ self.action) × (p.0.counts ≡ self.counts)) }
     {
         let Counts { held, filled, .. } = self.counts;
-        if !self.counts.are_of(rows.len(), links.len()) {
+        if !self.counts.as_lent(rows.len(), links.len()) {
             return Err((self, Refusal::Memory));
         }
         if filled < 2 * held {
