@@ -1,9 +1,9 @@
 -- Lists of numbers are read field by field.
-use Rattle.std.proofs.Common.{◌≡◌, ℕ, List, [], ◌∷◌, ◌++◌, sym, refl, ◌∙◌, subst}
+use Rattle.std.proofs.Common.{◌≡◌, ℕ, List, [], ◌∷◌, ◌++◌, sym, refl, ap, ◌∙◌, subst}
 use Rattle.jobs.specs.Bytes.{Lacks, Split}
 use Rattle.jobs.specs.Format.{SaysLevel}
 use Rattle.jobs.specs.Lists.{SaysList, Begun}
-use Rattle.jobs.specs.Numbers.{Digits}
+use Rattle.jobs.specs.Numbers.{Digits, value}
 use Rattle.jobs.proofs.Cuts.{lacked, one_split}
 use Rattle.jobs.proofs.Fields.{digits_lack}
 
@@ -30,6 +30,19 @@ rest_says body (n ∷ ns) r (x ∷ []) b s = absurd (no_comma body b.0 b.1 b.2 s
 rest_says body (n ∷ ns) r (x ∷ y ∷ xs) b s =
     let e = one_split 44 s.0 b.0 s.1 b.1 (digits_lack s.0 s.3.0) (digits_lack b.0 b.3.0) (sym s.2 ∙ b.2) in
     rest_says b.1 ns r (y ∷ xs) b.4 (subst (λ t. SaysList t (y ∷ xs)) e.1 s.4)
+
+-- a body says one list
+pub one_list : (body xs ys : List ℕ) → SaysList body xs → SaysList body ys → xs ≡ ys
+one_list body [] ys s t = absurd s
+one_list body (x ∷ xs) [] s t = absurd t
+one_list body (x ∷ []) (y ∷ []) s t = ap (λ n. n ∷ []) (s.1 ∙ sym t.1)
+one_list body (x ∷ []) (y ∷ z ∷ ys) s t = absurd (no_comma body t.0 t.1 t.2 s.0)
+one_list body (x ∷ w ∷ xs) (y ∷ []) s t = absurd (no_comma body s.0 s.1 s.2 t.0)
+one_list body (x ∷ w ∷ xs) (y ∷ z ∷ ys) s t =
+    let e = one_split 44 s.0 t.0 s.1 t.1 (digits_lack s.0 s.3.0) (digits_lack t.0 t.3.0) (sym s.2 ∙ t.2) in
+    let h : x ≡ y = s.3.1 ∙ ap value e.0 ∙ sym t.3.1 in
+    let r = one_list s.1 (w ∷ xs) (z ∷ ys) s.4 (subst (λ b. SaysList b (z ∷ ys)) (sym e.1) t.4) in
+    λ i. h i ∷ r i
 
 -- a field before a comma that is no number
 pub bad_field : (r field rest ys : List ℕ) → Split 44 r field rest → (Digits field → ⊥) → SaysList r ys → ⊥

@@ -1,33 +1,33 @@
 // The lines of a job, each read at the front of a text and handed on with the text after it.
 ghost use Rattle.std.specs.Prelude.{◌≡◌, ℕ, Bool, List, ℤ, pos, Decides, MatchOption, MatchResult, ◌≢◌};
-ghost use Rattle.jobs.specs.Faults.{number_of};
-ghost use Rattle.jobs.specs.Format.{KindLine, KindFault, SaysKind, LevelSaid, LevelFault, MirrorLine, MirrorFault, SaysMirror, MatrixLine, MatrixFaulty, SaysMatrix, IsMatrix, Entry};
+ghost use Rattle.jobs.specs.Bytes.{Keyed, Unkeyed};
+ghost use Rattle.jobs.specs.Format.{every, KindLine, KindFault, SaysKind, LevelSaid, LevelFault, MirrorLine, MirrorFault, SaysMirror, MatrixLine, MatrixFaulty, SaysMatrix, IsMatrix, Entry};
 ghost use Rattle.jobs.specs.Numbers.{capped};
 ghost use Rattle.jobs.specs.Ranges.{Fits, capped_matrix};
-ghost use Rattle.jobs.specs.declared.fault.Fault.TheVariants.{Range};
+ghost use Rattle.jobs.specs.declared.fault.Fault.TheVariants.{Form, Range};
 ghost use Rattle.jobs.specs.declared.fault.FieldFault.TheVariants.{Unreadable};
 ghost use Rattle.jobs.specs.declared.fault.MatrixFault.TheVariants.{Determinant};
 ghost use Rattle.modular.specs.Matrix.{M2, entries, rows, det};
 
 use crate::fault::{Fault, FieldFault, MatrixFault};
-use crate::job::Kind;
+use crate::job::{Kind, Subject};
 use crate::{bytes, number};
 use modular::matrix;
 use modular::matrix::Matrix;
 
-// Which line a number stands on; a matrix line by how many matrix lines stand before it.
+// Where a number stands: on a line whose numbers have no sign, or on a matrix line with so many matrix lines before it.
 #[derive(Clone, Copy)]
 pub enum Place {
-    Level,
+    Natural,
     Matrix(usize),
 }
 
 // Whether a number is in the range of its line.
-fn ranged(place: Place, number: i64) -> Result<(), Fault>
+pub fn ranged(place: Place, number: i64) -> Result<(), Fault>
     ensures { MatchResult result (λ _. Fits place number) (λ e. (e ≡ Range) × (Fits place number → ⊥)) }
 {
     match (place, number) {
-        (Place::Level, n) if n > 1_000_000_000 => Err(Fault::Range),
+        (Place::Natural, n) if n > 1_000_000_000 => Err(Fault::Range),
         (Place::Matrix(before), n) if before >= 100 || n < -1_000_000_000 || n > 1_000_000_000 =>
             Err(Fault::Range),
         _ => Ok(()),
@@ -40,15 +40,17 @@ fn is(body: &[u8], name: &[u8]) -> bool
     body == name
 }
 
-fn kind_named(name: &[u8]) -> Option<Kind>
-    ensures { MatchOption result ((k : Kind) → SaysKind name.now k → ⊥) (λ k. SaysKind name.now k) }
+fn subject_named(name: &[u8]) -> Option<Subject>
+    ensures { MatchOption result ((s : Subject) → SaysKind every name.now s → ⊥) (λ s. SaysKind every name.now s) }
 {
     if is(name, b"lines") {
-        Some(Kind::Lines)
+        Some(Subject::Level(Kind::Lines))
     } else if is(name, b"vectors") {
-        Some(Kind::Vectors)
+        Some(Subject::Level(Kind::Vectors))
     } else if is(name, b"matrices") {
-        Some(Kind::Matrices)
+        Some(Subject::Level(Kind::Matrices))
+    } else if is(name, b"origami") {
+        Some(Subject::Origami)
     } else {
         None
     }
@@ -66,38 +68,42 @@ fn mirror_named(name: &[u8]) -> Option<bool>
     }
 }
 
-// `kind=` and the name of a kind.
-pub fn kind_line(text: &[u8]) -> Result<(Kind, &[u8]), Fault>
-    ensures { MatchResult result (λ p. KindLine text.now p.0 p.1.now) (λ e. KindFault text.now (number_of e)) }
+// The body of the line at the front of a text, behind its key, and the text after the line.
+pub fn body<'a>(key: &[u8], text: &'a [u8]) -> Result<(&'a [u8], &'a [u8]), Fault>
+    ensures { MatchResult result (λ p. Keyed key.now text.now p.0.now p.1.now) (λ e. (e ≡ Form) × Unkeyed key.now text.now) }
 {
-    let Some((body, rest)) = bytes::keyed(b"kind=", text) else {
-        return Err(Fault::Form);
-    };
-    match kind_named(body) {
-        Some(kind) => Ok((kind, rest)),
+    match bytes::keyed(key, text) {
+        Some(cut) => Ok(cut),
+        None => Err(Fault::Form),
+    }
+}
+
+// `kind=` and the name of a subject.
+pub fn kind_line(text: &[u8]) -> Result<(Subject, &[u8]), Fault>
+    ensures { MatchResult result (λ p. KindLine every text.now p.0 p.1.now) (λ e. KindFault every text.now e) }
+{
+    let (body, rest) = body(b"kind=", text)?;
+    match subject_named(body) {
+        Some(subject) => Ok((subject, rest)),
         None => Err(Fault::Form),
     }
 }
 
 // `level=` and a number; whether there is such a level is left to the maker of the object.
 pub fn level_line(text: &[u8]) -> Result<(u32, &[u8]), Fault>
-    ensures { MatchResult result (λ p. LevelSaid text.now p.0 p.1.now) (λ e. LevelFault text.now (number_of e)) }
+    ensures { MatchResult result (λ p. LevelSaid text.now p.0 p.1.now) (λ e. LevelFault text.now e) }
 {
-    let Some((body, rest)) = bytes::keyed(b"level=", text) else {
-        return Err(Fault::Form);
-    };
+    let (body, rest) = body(b"level=", text)?;
     let level = number::natural(body)?;
-    ranged(Place::Level, i64::from(level))?;
+    ranged(Place::Natural, i64::from(level))?;
     Ok((level, rest))
 }
 
 // `mirror=` and yes or no.
 pub fn mirror_line(text: &[u8]) -> Result<(bool, &[u8]), Fault>
-    ensures { MatchResult result (λ p. MirrorLine text.now p.0 p.1.now) (λ e. MirrorFault text.now (number_of e)) }
+    ensures { MatchResult result (λ p. MirrorLine text.now p.0 p.1.now) (λ e. MirrorFault text.now e) }
 {
-    let Some((body, rest)) = bytes::keyed(b"mirror=", text) else {
-        return Err(Fault::Form);
-    };
+    let (body, rest) = body(b"mirror=", text)?;
     match mirror_named(body) {
         Some(mirror) => Ok((mirror, rest)),
         None => Err(Fault::Form),
@@ -148,11 +154,9 @@ fn unimodular(m: Matrix) -> Result<(), MatrixFault>
 
 // `matrix=` and four numbers; `before` matrix lines stand before it.
 pub fn matrix_line(text: &[u8], before: usize) -> Result<(Matrix, &[u8]), Fault>
-    ensures { MatchResult result (λ p. MatrixLine before text.now (entries p.0) p.1.now) (λ e. MatrixFaulty before text.now (number_of e)) }
+    ensures { MatchResult result (λ p. MatrixLine before text.now (entries p.0) p.1.now) (λ e. MatrixFaulty before text.now e) }
 {
-    let Some((body, rest)) = bytes::keyed(b"matrix=", text) else {
-        return Err(Fault::Form);
-    };
+    let (body, rest) = body(b"matrix=", text)?;
     let m = four_entries(body)?;
     in_range(before, m)?;
     unimodular(m)?;

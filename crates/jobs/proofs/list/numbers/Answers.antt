@@ -3,6 +3,7 @@ use Rattle.std.proofs.Common.{min, [], ◌∷◌, ◌++◌, length, sym, refl, a
 use Rattle.std.proofs.lemmas.List.{map-append}
 use Rattle.std.proofs.lemmas.Slice.{pushed}
 use Rattle.std.proofs.lemmas.Result.{err_from_is_err_and}
+use Rattle.jobs.specs.declared.fault.Fault.TheVariants.{Field}
 use Rattle.jobs.specs.Numbers.{value}
 use Rattle.jobs.proofs.Listed.{begun_more, begun_ends, rest_says, bad_field, bad_last}
 use Rattle.jobs.proofs.list.numbers.Goals as goal
@@ -11,9 +12,13 @@ pub returns-in_err-natural : goal.returns-in_err-natural
 returns-in_err-natural c =
     let p = err_from_is_err_and c.from_residual.result c.from_residual.ensures.1 in
     let i = c.loop-field.invariant in
-    rw (p.1, p.2) (λ ns s.
-    let y = rest_says _ i.0 _ ns i.1 s in
-    bad_field _ _ _ y.0 c.in-Some.ensures c.in_err-natural.ensures.1 y.1)
+    let a = c.in_err-natural.ensures in
+    rw (p.1, p.2) (
+      ap Field a.0,
+      λ ns s.
+          let y = rest_says _ i.0 _ ns i.1 s in
+          bad_field _ _ _ y.0 c.in-Some.ensures a.1 y.1,
+    )
 
 pub loop-field-smaller : goal.loop-field-smaller
 loop-field-smaller c = let w = ap length c.in-Some.ensures.whole in omega (arith, simp length-append at w)
@@ -34,9 +39,13 @@ pub returns-in_err-natural-2 : goal.returns-in_err-natural-2
 returns-in_err-natural-2 c =
     let p = err_from_is_err_and c.from_residual-in_err-natural-2.result c.from_residual-in_err-natural-2.ensures.1 in
     let i = c.loop-field.invariant in
-    rw (p.1, p.2) (λ ns s.
-    let y = rest_says _ i.0 _ ns i.1 s in
-    bad_last _ y.0 c.in_default.ensures c.in_err-natural-2.ensures.1 y.1)
+    let a = c.in_err-natural-2.ensures in
+    rw (p.1, p.2) (
+      ap Field a.0,
+      λ ns s.
+          let y = rest_says _ i.0 _ ns i.1 s in
+          bad_last _ y.0 c.in_default.ensures a.1 y.1,
+    )
 
 pub returns : goal.returns
 returns c =

@@ -4,7 +4,6 @@ use Rattle.std.proofs.lemmas.List.{length-map, map-append}
 use Rattle.std.proofs.lemmas.Slice.{pushed}
 use Rattle.std.proofs.lemmas.Result.{err_from_is_err_and, MatchResult-at_ok, MatchResult-at_err}
 use Rattle.modular.specs.Matrix.{entries}
-use Rattle.jobs.specs.Faults.{number_of}
 use Rattle.jobs.specs.Format.{MatrixLine, MatrixFaulty}
 use Rattle.jobs.specs.Jobs.{Passed}
 use Rattle.jobs.proofs.Passing.{line_ok, line_err, line_shortens, passed_more, empty_text}
@@ -21,8 +20,8 @@ returns-in_err-m c =
       _,
       c.loop-rest.invariant.0,
       λ h. false-eqb _ 0 c.loop-rest-test.ensures (ap length h),
-      subst (λ k. MatrixFaulty k c.loop-rest.rest.now (number_of c.in_err-m.field-0.0.fault)) n f,
-      e.1 ∙ ap (λ k. 4 + k) n,
+      subst (λ k. MatrixFaulty k c.loop-rest.rest.now c.in_err-m.field-0.0.fault) n f,
+      e.1 ∙ ap (λ k. c.args.first + k) n,
     )
 
 pub loop-rest-smaller : goal.loop-rest-smaller
