@@ -34,48 +34,11 @@ pub fn ranged(place: Place, number: i64) -> Result<(), Fault>
     }
 }
 
-fn is(body: &[u8], name: &[u8]) -> bool
-    ensures { Decides result (body.now ≡ name.now) }
-{
-    body == name
-}
-
-fn subject_named(name: &[u8]) -> Option<Subject>
-    ensures { MatchOption result ((s : Subject) → SaysKind every name.now s → ⊥) (λ s. SaysKind every name.now s) }
-{
-    if is(name, b"lines") {
-        Some(Subject::Level(Kind::Lines))
-    } else if is(name, b"vectors") {
-        Some(Subject::Level(Kind::Vectors))
-    } else if is(name, b"matrices") {
-        Some(Subject::Level(Kind::Matrices))
-    } else if is(name, b"origami") {
-        Some(Subject::Origami)
-    } else {
-        None
-    }
-}
-
-fn mirror_named(name: &[u8]) -> Option<bool>
-    ensures { MatchOption result ((b : Bool) → SaysMirror name.now b → ⊥) (λ b. SaysMirror name.now b) }
-{
-    if is(name, b"yes") {
-        Some(true)
-    } else if is(name, b"no") {
-        Some(false)
-    } else {
-        None
-    }
-}
-
 // The body of the line at the front of a text, behind its key, and the text after the line.
 pub fn body<'a>(key: &[u8], text: &'a [u8]) -> Result<(&'a [u8], &'a [u8]), Fault>
     ensures { MatchResult result (λ p. Keyed key.now text.now p.0.now p.1.now) (λ e. (e ≡ Form) × Unkeyed key.now text.now) }
 {
-    match bytes::keyed(key, text) {
-        Some(cut) => Ok(cut),
-        None => Err(Fault::Form),
-    }
+    bytes::keyed(key, text).ok_or(Fault::Form)
 }
 
 // `kind=` and the name of a subject.
@@ -83,9 +46,12 @@ pub fn kind_line(text: &[u8]) -> Result<(Subject, &[u8]), Fault>
     ensures { MatchResult result (λ p. KindLine every text.now p.0 p.1.now) (λ e. KindFault every text.now e) }
 {
     let (body, rest) = body(b"kind=", text)?;
-    match subject_named(body) {
-        Some(subject) => Ok((subject, rest)),
-        None => Err(Fault::Form),
+    match body {
+        b"lines" => Ok((Subject::Level(Kind::Lines), rest)),
+        b"vectors" => Ok((Subject::Level(Kind::Vectors), rest)),
+        b"matrices" => Ok((Subject::Level(Kind::Matrices), rest)),
+        b"origami" => Ok((Subject::Origami, rest)),
+        _ => Err(Fault::Form),
     }
 }
 
@@ -104,9 +70,10 @@ pub fn mirror_line(text: &[u8]) -> Result<(bool, &[u8]), Fault>
     ensures { MatchResult result (λ p. MirrorLine text.now p.0 p.1.now) (λ e. MirrorFault text.now e) }
 {
     let (body, rest) = body(b"mirror=", text)?;
-    match mirror_named(body) {
-        Some(mirror) => Ok((mirror, rest)),
-        None => Err(Fault::Form),
+    match body {
+        b"yes" => Ok((true, rest)),
+        b"no" => Ok((false, rest)),
+        _ => Err(Fault::Form),
     }
 }
 
@@ -114,9 +81,7 @@ pub fn mirror_line(text: &[u8]) -> Result<(bool, &[u8]), Fault>
 fn entry_then(body: &[u8]) -> Result<(i64, &[u8]), FieldFault>
     ensures { MatchResult result (λ p. (z : ℤ) × Entry body.now z p.1.now × (p.0 ≡ capped z)) (λ e. (e ≡ Unreadable) × ((z : ℤ) (rest : List ℕ) → Entry body.now z rest → ⊥)) }
 {
-    let Some((field, rest)) = bytes::split(body, b',') else {
-        return Err(FieldFault::Unreadable);
-    };
+    let (field, rest) = bytes::split(body, b',').ok_or(FieldFault::Unreadable)?;
     Ok((number::integer(field)?, rest))
 }
 

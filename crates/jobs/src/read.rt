@@ -27,11 +27,10 @@ fn on_line<T>(line: usize, read: Result<T, Fault>) -> Result<T, Refusal>
 fn made_on_line<T>(line: usize, made: Result<T, LineError>) -> Result<T, Error>
     ensures { result ≡ made_on_line line made }
 {
-    match made {
-        Ok(found) => Ok(found),
-        Err(LineError::Faulty(fault)) => Err(Error::Refused(Refusal { fault, line })),
-        Err(LineError::Memory) => Err(Error::Memory),
-    }
+    made.map_err(|error| match error {
+        LineError::Faulty(fault) => Error::Refused(Refusal { fault, line }),
+        LineError::Memory => Error::Memory,
+    })
 }
 
 // The object of a job, or the fault of its level.
