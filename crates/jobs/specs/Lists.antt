@@ -1,6 +1,5 @@
 -- Lists of numbers, with commas between them.
 --     SaysList body ns      the body is the fields of the numbers ns, in order, with a comma between neighbours
---     Begun body ns rest    the body is the fields of the numbers ns, each with a comma after it, and then rest
 --     capped_all ns          the numbers as they are read, up to the cap
 --     ReadsList body r      what reading gives: the list that the body says, or that it is unreadable; or nothing, for want of memory
 use Rattle.std.specs.Prelude.{◌≡◌, ℕ, min, List, [], ◌∷◌, ◌++◌, map, Ok, Err, vec_items, Result, Vec}
@@ -13,10 +12,6 @@ abbrev pub SaysList : List ℕ → List ℕ → Type 0
 SaysList body [] = ⊥
 SaysList body (n ∷ []) = SaysLevel body n
 SaysList body (n ∷ m ∷ ns) = (field : List ℕ) × (rest : List ℕ) × (body ≡ field ++ 44 ∷ rest) × SaysLevel field n × SaysList rest (m ∷ ns)
-
-abbrev pub Begun : List ℕ → List ℕ → List ℕ → Type 0
-Begun body [] rest = body ≡ rest
-Begun body (n ∷ ns) rest = (field : List ℕ) × (past : List ℕ) × (body ≡ field ++ 44 ∷ past) × SaysLevel field n × Begun past ns rest
 
 abbrev pub capped_all : List ℕ → List ℕ
 capped_all ns = map (λ n. min n 1000000001) ns

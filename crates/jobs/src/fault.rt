@@ -82,6 +82,7 @@ impl Fault {
 }
 
 // Why a line gave no list or no object: it is faulty, or memory ran out.
+// Not one type with Error, generic in the fault: what converts into each differs, so they would share these four lines alone.
 #[derive(Clone, Copy, Debug, PartialEq, Eq)]
 pub enum LineError {
     Faulty(Fault),

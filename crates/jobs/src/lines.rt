@@ -1,7 +1,7 @@
 // The lines of a job, each read at the front of a text and handed on with the text after it.
-ghost use Rattle.std.specs.Prelude.{◌≡◌, ℕ, Bool, List, ℤ, pos, Decides, MatchOption, MatchResult, ◌≢◌};
+ghost use Rattle.std.specs.Prelude.{◌≡◌, ℕ, List, ℤ, pos, MatchResult, ◌≢◌};
 ghost use Rattle.jobs.specs.Bytes.{Keyed, Unkeyed};
-ghost use Rattle.jobs.specs.Format.{every, KindLine, KindFault, SaysKind, LevelSaid, LevelFault, MirrorLine, MirrorFault, SaysMirror, MatrixLine, MatrixFaulty, SaysMatrix, IsMatrix, Entry};
+ghost use Rattle.jobs.specs.Format.{every, KindLine, KindFault, LevelSaid, LevelFault, MirrorLine, MirrorFault, MatrixLine, MatrixFaulty, SaysMatrix, IsMatrix, Entry};
 ghost use Rattle.jobs.specs.Numbers.{capped};
 ghost use Rattle.jobs.specs.Ranges.{Fits, capped_matrix};
 ghost use Rattle.jobs.specs.declared.fault.Fault.TheVariants.{Form, Range};

@@ -2,7 +2,7 @@
 ghost use Rattle.jobs.specs.Lists.{ReadsList};
 
 use crate::fault::LineError;
-use crate::{bytes, number};
+use crate::number;
 use std::alloc::Global;
 
 // The numbers between the commas.
@@ -10,11 +10,8 @@ pub fn numbers(heap: Global, body: &[u8]) -> Result<Vec<u32>, LineError>
     ensures { ReadsList body.now result }
 {
     let mut list = Vec::new(heap);
-    let mut rest = body;
-    while let Some((field, past)) = bytes::split(rest, b',') {
+    for field in body.split(|byte| *byte == b',') {
         list.push(number::natural(field)?)?;
-        rest = past;
     }
-    list.push(number::natural(rest)?)?;
     Ok(list)
 }

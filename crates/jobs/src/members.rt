@@ -61,7 +61,7 @@ pub fn answers(heap: Global, job: &Job<Object>) -> Result<String, AllocError>
     ensures { IfOk result (λ s. Answers (level_task job.now) (string_bytes s)) }
 {
     let mut text = String::new(heap);
-    for m in job.matrices.as_slice() {
+    for m in &job.matrices {
         text.push_str(answer(is_member(job, *m)))?;
     }
     Ok(text)

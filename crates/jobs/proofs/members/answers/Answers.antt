@@ -11,7 +11,7 @@ pub loop-m-preserved : goal.loop-m-preserved
 loop-m-preserved c =
     let v = vec_items c.args.job.now.matrices in
     let i = c.loop-m.m-index in
-    let same = c.as_slice-m-items.ensures.value in
+    let same = c.deref-m-items.ensures.value in
     let h : i < length v = subst (λ l. i < length l) same c.loop-m-test.true in
     let G : M2 → Type 0 = IsMember (level_task c.args.job.now) in
     let d : Decides c.is_member.result (G (entries (get_or v i []))) = subst (λ l. Decides c.is_member.result (G (entries (get_or l i [])))) same c.is_member.ensures in
@@ -23,6 +23,6 @@ loop-m-preserved c =
 pub returns : goal.returns
 returns c =
     let v = vec_items c.args.job.now.matrices in
-    let same = ap length c.as_slice-m-items.ensures.value in
+    let same = ap length c.deref-m-items.ensures.value in
     let all = take_all c.loop-m.m-index v (omega arith) in
     subst (λ l. AnswerAll (IsMember (level_task c.args.job.now)) (map entries l) (string_bytes c.loop-m.text)) all c.loop-m.invariant
