@@ -1,7 +1,6 @@
 -- Where a text is cut in two.
-use Rattle.std.proofs.Common.{◌≡◌, ℕ, suc, ◌+◌, ◌-◌, ◌<◌, List, [], ◌∷◌, ◌++◌, length, get_or, take, drop, sym, refl, ap, ◌∙◌, add-one, arith, take-append-drop, length-take, drop-cons, get_or-take}
-use Rattle.std.proofs.lemmas.Slice.{between_to_end}
-use Rattle.jobs.specs.Bytes.{Lacks, Split}
+use Rattle.std.proofs.Common.{◌≡◌, ℕ, suc, List, [], ◌∷◌, ◌++◌, refl, arith}
+use Rattle.jobs.specs.Bytes.{Lacks}
 
 -- a text with x in it does not lack x
 pub lacked : (x : ℕ) (u v : List ℕ) → Lacks x (u ++ x ∷ v) → ⊥

@@ -1,6 +1,6 @@
 -- The lines of right and up: what each says, it says alone, and a list in range is read as it is.
 use Rattle.std.proofs.Common.{◌≡◌, ℕ, suc, ◌≤◌, min, List, [], ◌∷◌, Err, codes, sym, refl, ap, ◌∙◌, subst, inl, inr, arith}
-use Rattle.origami.specs.Listings.{DeclinedRight, Declined, FitRight, Accepted}
+use Rattle.origami.specs.Listings.{DeclinedRight, Declined}
 use Rattle.origami.specs.declared.refusal.Refusal.{Refusal}
 use Rattle.origami.specs.declared.refusal.Refusal.TheVariants.{Degree, NotPermutation, NotReached}
 use Rattle.jobs.specs.Bytes.{Keyed}
@@ -90,20 +90,3 @@ right_unread body Memory h = tt
 pub up_unread : (xs body : List ℕ) (e : LineError) → ReadsNumbers body (Err e) → ReadsUp xs body (Err e)
 up_unread xs body (Faulty f) h = list_fault (codes "up=") (RefusedUp xs) body f h
 up_unread xs body Memory h = tt
-
--- lists that the maker accepts, it does not decline
-right_fits : (xs : List ℕ) → FitRight xs → (e : Refusal) → DeclinedRight xs e → ⊥
-right_fits xs h Degree d = d h.0
-right_fits xs h NotPermutation d = d.1 h.1
-right_fits xs h NotReached d = d
-
-up_fits : (xs ys : List ℕ) → Accepted xs ys → (e : Refusal) → Declined xs ys e → ⊥
-up_fits xs ys h Degree d = d h.fit
-up_fits xs ys h NotPermutation d = d.1 (h.rights, h.ups)
-up_fits xs ys h NotReached d = d.3 h.reached
-
-pub right_passes : (body xs : List ℕ) → SaysList body xs × AllIn xs → FitRight xs → (text rest : List ℕ) → Keyed (codes "right=") text body rest → RightLine text xs rest
-right_passes body xs s h text rest k = record { body = body; keyed = k; says = s.0; range = s.1; made = λ n r. right_fits xs h r.0 r.1 }
-
-pub up_passes : (xs body ys : List ℕ) → SaysList body ys × AllIn ys → Accepted xs ys → (text rest : List ℕ) → Keyed (codes "up=") text body rest → UpLine xs text ys rest
-up_passes xs body ys s h text rest k = record { body = body; keyed = k; says = s.0; range = s.1; made = λ n r. up_fits xs ys h r.0 r.1 }

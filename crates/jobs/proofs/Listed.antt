@@ -4,7 +4,6 @@ use Rattle.std.specs.List.{All, slice_split, join_with_byte}
 use Rattle.std.proofs.lemmas.Bool.{ne_eqb}
 use Rattle.std.proofs.lemmas.List.Elements.{All-from_get_or}
 use Rattle.std.proofs.lemmas.List.Splits.{slice_split_none, slice_split_at, length-slice_split, join_with_byte-slice_split}
-use Rattle.jobs.specs.Bytes.{Lacks}
 use Rattle.jobs.specs.Format.{SaysLevel}
 use Rattle.jobs.specs.Lists.{SaysList}
 use Rattle.jobs.specs.Numbers.{Digits}

@@ -1,12 +1,11 @@
 -- One line after the other.
-use Rattle.std.proofs.Common.{◌≡◌, ℕ, suc, ◌+◌, ◌<◌, ◌≤◌, Bool, List, [], ◌∷◌, ◌++◌, map, length, vec_items, Ok, Err, MatchResult, codes, Result, Vec, sym, refl, ap, ◌∙◌, subst, inl, inr, arith, length-append}
+use Rattle.std.proofs.Common.{◌≡◌, ℕ, suc, ◌+◌, ◌<◌, ◌≤◌, Bool, List, [], ◌∷◌, ◌++◌, map, length, vec_items, Ok, Err, MatchResult, codes, Result, Vec, sym, refl, ap, subst, inl, inr, arith, length-append}
 use Rattle.std.specs.declared.alloc.Global.{Global}
 use Rattle.modular.specs.Matrix.{M2, entries}
 use Rattle.jobs.specs.Bytes.{Keyed}
-use Rattle.jobs.specs.Format.{KindLine, MirrorLine, MatrixLine, LevelSaid, LevelLine, LevelFault, Bounded, RefusedLevel}
+use Rattle.jobs.specs.Format.{KindLine, MirrorLine, MatrixLine, LevelSaid, LevelFault, RefusedLevel}
 use Rattle.jobs.specs.Jobs.{Named, NamedFault, Passed, Tail, TailFault, in_matrix, in_named, in_tail, mirror_on, Faulty, after_kind, on_line, made_on_line, Told, ReadsBy, ReadsMatrices}
 use Rattle.jobs.specs.Line.{refused}
-use Rattle.levels.specs.Levels.{IsLevel}
 use Rattle.jobs.specs.declared.fault.Fault.{Fault}
 use Rattle.jobs.specs.declared.fault.Refusal.{Refusal}
 use Rattle.jobs.specs.declared.fault.Error.{Error}
@@ -84,11 +83,7 @@ module _ {S : Type 0} (subject : S → Subject) (text : List ℕ) (s : S) (past 
   reads_tail thing given rest n (Err (Refused f)) h = after_kind _ _ s past short l (in_tail _ _ (thing given) rest n h)
   reads_tail thing given rest n (Err Memory) h = tt
 
--- a number that is said is a level unless the maker declines it
-pub level_said : (text : List ℕ) (n k : ℕ) (rest : List ℕ) → LevelSaid text n rest → k ≡ n → IsLevel k → LevelLine text k rest
-level_said text n k rest l e h =
-    record { body = l.body; keyed = l.keyed; says = (l.says.0, e ∙ l.says.1); range = subst Bounded (sym e) l.range; made = λ f r. r.1.1 h }
-
+-- a number that is said and is no level is the fault of its line
 pub no_level : (text : List ℕ) (n : ℕ) (rest : List ℕ) (f : Fault) → LevelSaid text n rest → RefusedLevel n f → LevelFault text f
 no_level text n rest f l r = refused l.body rest n f l.keyed l.says l.range r
 

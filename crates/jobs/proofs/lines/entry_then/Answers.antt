@@ -1,5 +1,5 @@
 -- The first field ends at the first comma, since no field that spells a number has one.
-use Rattle.std.proofs.Common.{◌≡◌, None, Some, sym, refl, ◌∙◌, subst, to_z-of_z, w64, SFits, rules, arith}
+use Rattle.std.proofs.Common.{◌≡◌, None, Some, sym, ◌∙◌, subst, arith}
 use Rattle.std.proofs.lemmas.Option.{MatchOption-at_some, MatchOption-at_none}
 use Rattle.std.proofs.lemmas.Result.{err_from_is_err_and}
 use Rattle.jobs.specs.Bytes.{Lacks, Split}
@@ -32,10 +32,3 @@ returns-in_err-integer c =
           let f = (one_split 44 e.field _ rest _ (spelt_lacks e.field z e.spells) s.first (sym e.whole ∙ s.whole)).0 in
           a.1 z (subst (λ g. Spells g z) f e.spells),
     )
-
-pub returns : goal.returns
-returns c =
-    let a = c.in_ok-integer.ensures in
-    let s = cut (goal.at.returns c).In_ok-field in
-    let f : SFits w64 c.in_ok-integer.field-0 = search rules in
-    (a.0, record { field = _; whole = s.whole; spells = a.1 }, simp (to_z-of_z f) a.2)

@@ -15,9 +15,19 @@ returns-in_err-body c =
     let f = c.in_err-body.ensures in
     rw (p.1, p.2, f.0) (form f.1)
 
+pub returns-in-vectors : goal.returns-in-vectors
+returns-in-vectors c =
+    let says = text_from_reads c.in_ok-body.body.now (codes "vectors") (omega arith) (search rules) in
+    record { body = _; keyed = c.in_ok-body.ensures; says = says; range = tt; made = λ f h. h }
+
 pub returns-in-matrices : goal.returns-in-matrices
 returns-in-matrices c =
     let says = text_from_reads c.in_ok-body.body.now (codes "matrices") (omega arith) (search rules) in
+    record { body = _; keyed = c.in_ok-body.ensures; says = says; range = tt; made = λ f h. h }
+
+pub returns-in-origami : goal.returns-in-origami
+returns-in-origami c =
+    let says = text_from_reads c.in_ok-body.body.now (codes "origami") (omega arith) (search rules) in
     record { body = _; keyed = c.in_ok-body.ensures; says = says; range = tt; made = λ f h. h }
 
 -- a body that is none of the names says nothing

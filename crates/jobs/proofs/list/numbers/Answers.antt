@@ -1,5 +1,5 @@
 -- Each turn takes the number of one field.
-use Rattle.std.proofs.Common.{◌≡◌, min, [], ◌∷◌, ◌++◌, map, length, sym, refl, ap, ◌∙◌, subst, arith, rules, tests}
+use Rattle.std.proofs.Common.{min, [], ◌∷◌, ◌++◌, sym, refl, ap, ◌∙◌, subst, rules, tests}
 use Rattle.std.proofs.lemmas.Iterator.Consumers.{YieldsList-turn, YieldsList-end}
 use Rattle.std.proofs.lemmas.Iterator.Splits.{YieldsList-from_slice_split}
 use Rattle.std.proofs.lemmas.List.{map-append}

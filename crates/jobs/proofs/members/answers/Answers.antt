@@ -1,6 +1,6 @@
 -- One matrix more is one line more.
-use Rattle.std.proofs.Common.{◌<◌, [], ◌∷◌, ◌++◌, map, length, get_or, take, vec_items, string_bytes, Decides, sym, ap, ◌∙◌, subst, arith}
-use Rattle.std.proofs.lemmas.List.{take_more, take_all, map-append}
+use Rattle.std.proofs.Common.{◌<◌, [], ◌∷◌, ◌++◌, map, length, get_or, take, vec_items, string_bytes, Decides, sym, ap, ◌∙◌, subst}
+use Rattle.std.proofs.lemmas.List.{take_more, map-append}
 use Rattle.modular.specs.Matrix.{M2, entries}
 use Rattle.jobs.specs.Jobs.{level_task}
 use Rattle.jobs.specs.Members.{AnswerAll, IsMember}
@@ -19,10 +19,3 @@ loop-m-preserved c =
     let list = ap (map entries) (take_more v i [] h) ∙ map-append entries (take i v) (get_or v i [] ∷ []) in
     subst (λ l. AnswerAll G l (string_bytes c.push_str.new.self)) (sym list)
     (subst (AnswerAll G (map entries (take i v) ++ entries (get_or v i []) ∷ [])) (sym c.in_ok-push_str.ensures.bytes) more)
-
-pub returns : goal.returns
-returns c =
-    let v = vec_items c.args.job.now.matrices in
-    let same = ap length c.deref-m-items.ensures.value in
-    let all = take_all c.loop-m.m-index v (omega arith) in
-    subst (λ l. AnswerAll (IsMember (level_task c.args.job.now)) (map entries l) (string_bytes c.loop-m.text)) all c.loop-m.invariant

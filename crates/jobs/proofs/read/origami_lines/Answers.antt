@@ -1,11 +1,10 @@
 -- The lines of right and up pass one after the other.
-use Rattle.std.proofs.Common.{vec_items, codes, sym, ap, ◌∙◌, subst, inl, inr}
+use Rattle.std.proofs.Common.{vec_items, codes, sym, ◌∙◌, subst, inl, inr}
 use Rattle.std.proofs.lemmas.Result.{err_from_is_err_and, MatchResult-at_ok, MatchResult-at_err}
 use Rattle.jobs.specs.Bytes.{Keyed}
 use Rattle.jobs.specs.Line.{form}
-use Rattle.jobs.specs.Objects.{squares}
 use Rattle.jobs.specs.Squares.{RightLine, ReadsRight, ReadsUp}
-use Rattle.jobs.proofs.Passing.{line_ok, line_err, made_ok, right_fails, up_fails}
+use Rattle.jobs.proofs.Passing.{line_ok, line_err, made_ok, up_fails}
 use Rattle.jobs.proofs.read.origami_lines.Goals as goal
 use Rattle.jobs.proofs.read.origami_lines.Goals.{After-right, After-body-2, After-glued}
 
@@ -19,12 +18,6 @@ returns-in_err-body c =
 -- the line of right has its key, and says a list
 right_keyed : (c : After-right) → Keyed (codes "right=") c.args.text.now c.in_ok-body.body.now c.in_ok-body.rest.now
 right_keyed c = MatchResult-at_ok _ _ _ (line_ok 2 c.body.result _ (sym c.on_line.ensures ∙ c.in_ok-body.was)) c.body.ensures
-
-pub returns-in_err-right : goal.returns-in_err-right
-returns-in_err-right c =
-    let p = err_from_is_err_and c.from_residual-in_err-right.result c.from_residual-in_err-right.ensures.1 in
-    let k = right_keyed (goal.at.returns-in_err-right c).After-right in
-    rw (p.1, p.2) (right_fails _ _ _ c.right.result k c.right.ensures _ (sym c.made_on_line.ensures ∙ c.in_err-right.was))
 
 right_said : (c : After-body-2) → RightLine c.args.text.now (vec_items c.in_ok-right.right) c.in_ok-body.rest.now
 right_said c =
@@ -51,10 +44,3 @@ returns-in_err-origami c =
     let a = (goal.at.returns-in_err-origami c).After-glued in
     let l = right_said (goal.at.After-glued a).After-body-2 in
     rw (p.1, p.2) (up_fails _ _ _ _ _ c.glued.result l (up_keyed a) (up_read a) _ (sym c.made_on_line-2.ensures ∙ c.in_err-origami.was))
-
-pub returns : goal.returns
-returns c =
-    let a = (goal.at.returns c).After-glued in
-    let o = made_ok 3 c.glued.result _ (sym c.made_on_line-2.ensures ∙ c.in_ok-origami.was) in
-    let u = subst (ReadsUp (vec_items c.in_ok-right.right) c.in_ok-body-2.body.now) o (up_read a) in
-    (_, u.0, _, right_said (goal.at.After-glued a).After-body-2, u.1 _ _ (up_keyed a), ap squares u.2)

@@ -1,5 +1,5 @@
 -- The first line passes, then the level line, and then the tail is read.
-use Rattle.std.proofs.Common.{◌≡◌, ℕ, List, Result, subst, ap, Err}
+use Rattle.std.proofs.Common.{◌≡◌, ℕ, List, Result, subst, Err}
 use Rattle.std.proofs.lemmas.Result.{err_from_is_err_and}
 use Rattle.jobs.specs.Format.{every, KindLine}
 use Rattle.jobs.specs.Jobs.{Task, SpellsLevelJob, FirstLevelFault, in_kind, ReadsLevel, Gives, Declines}
@@ -11,8 +11,7 @@ use Rattle.jobs.specs.declared.fault.Fault.TheVariants.{Form}
 use Rattle.jobs.specs.declared.job.Job.{Job}
 use Rattle.jobs.specs.declared.job.Kind.{Kind}
 use Rattle.jobs.specs.declared.job.Object.{Object}
-use Rattle.jobs.specs.declared.job.Subject.{Subject}
-use Rattle.jobs.specs.declared.job.Subject.TheVariants.{Level, Origami}
+use Rattle.jobs.specs.declared.job.Subject.TheVariants.{Level}
 use Rattle.jobs.proofs.Alone.{level_kind, origami_no_kind}
 use Rattle.jobs.proofs.Passing.{named_fails, reads_tail}
 use Rattle.jobs.proofs.OneReading.{gives, declines}

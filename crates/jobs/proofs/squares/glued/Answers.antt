@@ -1,9 +1,9 @@
 -- A list that is read and in range is judged by the maker, together with the right list.
-use Rattle.std.proofs.Common.{refl, ap, ◌∙◌, subst}
+use Rattle.std.proofs.Common.{refl, subst}
 use Rattle.std.proofs.lemmas.Result.{err_from_is_err_and}
-use Rattle.origami.specs.Listings.{Accepted, Declined, listed}
+use Rattle.origami.specs.Listings.{Declined}
 use Rattle.jobs.specs.Line.{refused}
-use Rattle.jobs.proofs.Glued.{up_unread, up_passes}
+use Rattle.jobs.proofs.Glued.{up_unread}
 use Rattle.jobs.proofs.squares.glued.Goals as goal
 
 pub returns-in_err-up : goal.returns-in_err-up
@@ -17,9 +17,3 @@ returns-in_err-new c =
     let a = c.in_ok-up.ensures in
     let d = subst (λ l. Declined c.args.right.now l c.in_err-new.field-0.0) c.as_slice.ensures.value c.in_err-new.ensures in
     rw (p.1, p.2) (λ text rest k. refused _ _ _ _ k a.0 a.1 (_, d, refl))
-
-pub returns : goal.returns
-returns c =
-    let same = c.as_slice.ensures.value in
-    let m = c.in_ok-new.ensures in
-    (_, up_passes _ _ _ c.in_ok-up.ensures (subst (Accepted c.args.right.now) same m.accepted), m.as_listed ∙ ap (listed c.args.right.now) same)

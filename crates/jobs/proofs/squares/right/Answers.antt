@@ -1,9 +1,9 @@
 -- A list that is read and in range is judged by the maker.
 use Rattle.std.proofs.Common.{refl, subst}
 use Rattle.std.proofs.lemmas.Result.{err_from_is_err_and}
-use Rattle.origami.specs.Listings.{DeclinedRight, FitRight}
+use Rattle.origami.specs.Listings.{DeclinedRight}
 use Rattle.jobs.specs.Line.{refused}
-use Rattle.jobs.proofs.Glued.{right_unread, right_passes}
+use Rattle.jobs.proofs.Glued.{right_unread}
 use Rattle.jobs.proofs.squares.right.Goals as goal
 
 pub returns-in_err-list : goal.returns-in_err-list
@@ -17,6 +17,3 @@ returns-in_err-check_right c =
     let a = c.in_ok-list.ensures in
     let d = subst (λ l. DeclinedRight l c.in_err-check_right.field-0.0) c.as_slice.ensures.value c.in_err-check_right.ensures in
     rw (p.1, p.2) (λ text rest k. refused _ _ _ _ k a.0 a.1 (_, d, refl))
-
-pub returns : goal.returns
-returns c = right_passes _ _ c.in_ok-list.ensures (subst FitRight c.as_slice.ensures.value c.in_ok-check_right.ensures)
