@@ -8,12 +8,12 @@ use Rattle.table.specs.declared.refusal.Refusal.TheVariants.{NoFreeRow}
 use Rattle.table.specs.Questions.{is_one, place_by, within}
 use Rattle.listing.specs.declared.error.Error.TheVariants.{Declined}
 use Rattle.listing.specs.Grown.{Tabulated, Crowded, FirstUnplaced, GrownOr}
-use Rattle.job_texts.specs.declared.fault.Fault.TheVariants as fault
-use Rattle.job_texts.specs.declared.fault.MatrixFault.TheVariants.{Determinant}
-use Rattle.job_texts.specs.Format.{IsMatrix, MatrixLine}
-use Rattle.job_texts.specs.Jobs.{Passed, SpellsJob, Task}
-use Rattle.job_texts.specs.Objects.{Thing, level, squares}
-use Rattle.job_texts.specs.declared.job.Kind.TheVariants.{Lines, Vectors, Matrices}
+use Rattle.jobs.specs.declared.fault.Fault.TheVariants as fault
+use Rattle.jobs.specs.declared.fault.MatrixFault.TheVariants.{Determinant}
+use Rattle.jobs.specs.Format.{IsMatrix, MatrixLine}
+use Rattle.jobs.specs.Jobs.{Passed, SpellsJob, Task}
+use Rattle.jobs.specs.Objects.{Thing, level, squares}
+use Rattle.jobs.specs.declared.job.Kind.TheVariants.{Lines, Vectors, Matrices}
 use Rattle.answers.specs.Answers.{TabulatedFor, CrowdedFor, GrownFor}
 
 -- a result is not two

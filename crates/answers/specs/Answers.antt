@@ -16,8 +16,8 @@ use Rattle.origami.specs.Forms.{least}
 use Rattle.origami.specs.Origamis.{sheared_form, turned_form}
 use Rattle.listing.specs.declared.error.Error.{Error}
 use Rattle.listing.specs.Grown.{Tabulated, Crowded, GrownOr}
-use Rattle.job_texts.specs.Objects.{Thing, level, squares}
-use Rattle.job_texts.specs.declared.job.Kind.TheVariants.{Lines, Vectors, Matrices}
+use Rattle.jobs.specs.Objects.{Thing, level, squares}
+use Rattle.jobs.specs.declared.job.Kind.TheVariants.{Lines, Vectors, Matrices}
 
 module _ {R : Type 0} where
   abbrev pub seen_t : Bool → (R → R) → (R → R) → R → R

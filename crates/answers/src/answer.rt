@@ -1,12 +1,12 @@
 // The listing that answers a job.
 ghost use Rattle.std.specs.Prelude.{map};
 ghost use Rattle.answers.specs.Answers.{GrownFor, seen_s, seen_t};
-ghost use Rattle.job_texts.specs.Jobs.{task};
-ghost use Rattle.job_texts.specs.Objects.{kind_of, level, level_of};
+ghost use Rattle.jobs.specs.Jobs.{task};
+ghost use Rattle.jobs.specs.Objects.{kind_of, level, level_of};
 ghost use Rattle.listing.specs.Grown.{GrownOr};
 ghost use Rattle.modular.specs.Matrix.{entries};
 
-use job_texts::job::{Given, Job, Object};
+use jobs::job::{Given, Job, Object};
 use listing::error::Error;
 use listing::grown::list;
 use modular::action::Action;
@@ -45,7 +45,7 @@ fn level(heap: Global, object: Object, mirror: bool, matrices: &[Matrix]) -> Res
 }
 
 // The listing of a job's table, with a line for each of its matrices.
-pub fn answer(heap: Global, job: &Job) -> Result<String, Error>
+pub fn answer(heap: Global, job: &Job<Given>) -> Result<String, Error>
     ensures { GrownFor (task job.now).thing (task job.now).mirror (task job.now).matrices result }
 {
     let matrices = job.matrices.as_slice();

@@ -11,7 +11,7 @@ fn is_as_stored(rt: &HostRuntime, name: &str) -> anyhow::Result<bool> {
     let text = fs::read(rt, job.as_str())?;
     let stored = fs::read(rt, out.as_str())?;
     let reply = reply_to(rt.alloc(), text.as_slice())?;
-    Ok(reply.text.as_bytes() == stored.as_slice())
+    Ok(reply.text().as_bytes() == stored.as_slice())
 }
 
 fn main(rt: HostRuntime) -> anyhow::Result<()> {

@@ -1,27 +1,11 @@
 // `cosets` reads a job from standard input and prints its answers, or the refusal of its first faulty line.
 #![tactic(auto)]
 
-use anyhow::anyhow;
-use jobs::read::LONGEST;
-use jobs::reply;
-use std::io::Read;
-
-// One byte past the longest text is enough to tell that it is too long.
-fn input(rt: &HostRuntime) -> anyhow::Result<Vec<u8>> {
-    let mut text = Vec::new(rt.alloc());
-    rt.stdin().take(LONGEST as u64 + 1).read_to_end(&mut text)?;
-    Ok(text)
-}
+use jobs::reply::reply_to;
+use replying::print_reply;
 
 fn main(rt: HostRuntime) -> anyhow::Result<()> {
-    let text = input(&rt)?;
-    let reply = reply::reply_to(rt.alloc(), text.as_slice())?;
-    rt.print(reply.text.as_str())?;
-    if reply.accepted {
-        Ok(())
-    } else {
-        Err(anyhow!("the job is declined"))
-    }
+    print_reply(&rt, reply_to)
 }
 
 #[cfg(test)]
@@ -33,7 +17,7 @@ mod tests {
     // What is printed for a text.
     fn says(rt: &(impl Abort + AllocGlobal), text: &str, out: &str) -> Result<(), Fail> {
         let reply = reply::reply_to(rt.alloc(), text.as_bytes())?;
-        assert_eq!(rt; reply.text.as_str(), out);
+        assert_eq!(rt; reply.text(), out);
         Ok(())
     }
 

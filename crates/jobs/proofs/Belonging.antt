@@ -17,7 +17,7 @@ use Rattle.numbers.specs.Residues.{Cong, residue}
 use Rattle.numbers.proofs.Congruence.{cong_neg, residue_rem, residue_same}
 use Rattle.numbers.proofs.Integers.{mul_zero}
 use Rattle.jobs.specs.Members.{InGroup, ActionMember, Answer, AnswerAll}
-use Rattle.jobs.specs.Objects.{level_of}
+use Rattle.jobs.specs.Objects.{level, level_of}
 use Rattle.jobs.specs.declared.job.Object.{Object}
 use Rattle.jobs.specs.declared.job.Object.TheVariants as object
 use Rattle.jobs.specs.declared.job.Kind.{Kind}
@@ -62,7 +62,7 @@ own_mirror Matrices n m =
     (λ h. (h.0, turned h.1, turned h.2, h.3), λ h. (h.0, turned_back n m.b h.1, turned_back n m.c h.2, h.3))
 
 -- the members of a level action are those of its congruences
-plain_member : (k : Kind) (n : ℕ) → IsLevel n → (m : M2) → det m ≡ pos 1 → (ActionMember k n false m → InGroup k n m) × (InGroup k n m → ActionMember k n false m)
+plain_member : (k : Kind) (n : ℕ) → IsLevel n → (m : M2) → det m ≡ pos 1 → (ActionMember (level k n) false m → InGroup k n m) × (InGroup k n m → ActionMember (level k n) false m)
 plain_member Lines n l m d = (lines_at n l).2.members m d
 plain_member Vectors n l m d = (vectors_at n l).1.members m d
 plain_member Matrices n l m d =
@@ -70,13 +70,13 @@ plain_member Matrices n l m d =
     (λ h. let q = p.0 h in (q.a_one, q.b_zero, q.c_zero, q.d_one), λ h. p.1 (record { a_one = h.0; b_zero = h.1; c_zero = h.2; d_one = h.3 }))
 
 -- the mirror has the members whose mirrored matrix is one below
-mirror_member : (k : Kind) (n : ℕ) → 0 < n → (m : M2) → (ActionMember k n true m → ActionMember k n false (mirrored m)) × (ActionMember k n false (mirrored m) → ActionMember k n true m)
+mirror_member : (k : Kind) (n : ℕ) → 0 < n → (m : M2) → (ActionMember (level k n) true m → ActionMember (level k n) false (mirrored m)) × (ActionMember (level k n) false (mirrored m) → ActionMember (level k n) true m)
 mirror_member Lines n h m = mirror_members (line_laws n h) m
 mirror_member Vectors n h m = mirror_members (vector_laws n h) m
 mirror_member Matrices n h m = mirror_members (matrix_laws n h) m
 
 -- a member has determinant 1
-member_det : (k : Kind) (n : ℕ) (b : Bool) (m : M2) → ActionMember k n b m → det m ≡ pos 1
+member_det : (k : Kind) (n : ℕ) (b : Bool) (m : M2) → ActionMember (level k n) b m → det m ≡ pos 1
 member_det Lines n true m h = sym (ap det h.1) ∙ det_word h.0
 member_det Lines n false m h = sym (ap det h.1) ∙ det_word h.0
 member_det Vectors n true m h = sym (ap det h.1) ∙ det_word h.0
@@ -89,7 +89,7 @@ mirrored_det : (m : M2) → det m ≡ det (mirrored m)
 mirrored_det m = solve 4 (λ a b c d. a ⊗ d ⊝ b ⊗ c ≐ a ⊗ d ⊝ (⊖ b) ⊗ (⊖ c)) tt m.a m.b m.c m.d
 
 -- so membership in the action of a job is determinant 1 and the congruences
-pub action_member : (k : Kind) (n : ℕ) (b : Bool) → IsLevel n → (m : M2) → (ActionMember k n b m → (det m ≡ pos 1) × InGroup k n m) × ((det m ≡ pos 1) × InGroup k n m → ActionMember k n b m)
+pub action_member : (k : Kind) (n : ℕ) (b : Bool) → IsLevel n → (m : M2) → (ActionMember (level k n) b m → (det m ≡ pos 1) × InGroup k n m) × ((det m ≡ pos 1) × InGroup k n m → ActionMember (level k n) b m)
 action_member k n false l m = (
   λ h. let d = member_det k n false m h in (d, (plain_member k n l m d).0 h),
   λ h. (plain_member k n l m h.0).1 h.1,

@@ -1,7 +1,8 @@
 -- A text spells one job or has one first fault, and never both.
 use Rattle.std.proofs.Common.{◌≡◌, ℕ, List, [], ◌∷◌, ◌++◌, sym, refl, ◌∙◌, subst}
 use Rattle.jobs.specs.Bytes.{Keyed}
-use Rattle.jobs.specs.Line.{Line, Fault, form, unread, range, refused}
+use Rattle.jobs.specs.Line.{Line, Fails, form, unread, range, refused}
+use Rattle.jobs.specs.declared.fault.Fault.{Fault}
 use Rattle.jobs.proofs.Cuts.{one_split}
 
 -- the same key in front
@@ -15,9 +16,9 @@ one_line key text b c r q h k =
     let s = one_split 10 (key ++ b) (key ++ c) r q h.line k.line (sym h.whole ∙ k.whole) in
     (cancel key b c s.0, s.1)
 
-module _ {X : Type 0} (key : List ℕ) (u : ℕ) (Says : List ℕ → X → Type 0) (InRange : X → Type 0) (Refused : X → ℕ → Type 0)
+module _ {X : Type 0} (key : List ℕ) (u : Fault) (Says : List ℕ → X → Type 0) (InRange : X → Type 0) (Refused : X → Fault → Type 0)
     (one-said : (body : List ℕ) (x y : X) → Says body x → Says body y → x ≡ y)
-    (one_refusal : (x : X) (n m : ℕ) → Refused x n → Refused x m → n ≡ m) where
+    (one_refusal : (x : X) (n m : Fault) → Refused x n → Refused x m → n ≡ m) where
   -- what is said by two readings of one line
   same_said : (text b c r q : List ℕ) (x y : X) → Keyed key text b r → Keyed key text c q → Says b x → Says c y → x ≡ y
   same_said text b c r q x y h k s t = one-said b x y s (subst (λ l. Says l y) (sym (one_line key text b c r q h k).0) t)
@@ -27,13 +28,13 @@ module _ {X : Type 0} (key : List ℕ) (u : ℕ) (Says : List ℕ → X → Type
       (same_said text l.body m.body r q x y l.keyed m.keyed l.says m.says, (one_line key text l.body m.body r q l.keyed m.keyed).1)
 
   -- a line that passes every test has no fault
-  pub line_sound : (text : List ℕ) (x : X) (r : List ℕ) (n : ℕ) → Line key u Says InRange Refused text x r → Fault key u Says InRange Refused text n → ⊥
+  pub line_sound : (text : List ℕ) (x : X) (r : List ℕ) (n : Fault) → Line key u Says InRange Refused text x r → Fails key u Says InRange Refused text n → ⊥
   line_sound text x r n l (form f) = f l.body r l.keyed
   line_sound text x r n l (unread b q k f) = f x (subst (λ c. Says c x) (one_line key text l.body b r q l.keyed k).0 l.says)
   line_sound text x r n l (range b q y k s f) = f (subst InRange (same_said text l.body b r q x y l.keyed k l.says s) l.range)
   line_sound text x r n l (refused b q y m k s i f) = l.made m (subst (λ z. Refused z m) (sym (same_said text l.body b r q x y l.keyed k l.says s)) f)
 
-  pub fault_same : (text : List ℕ) (n m : ℕ) → Fault key u Says InRange Refused text n → Fault key u Says InRange Refused text m → n ≡ m
+  pub fault_same : (text : List ℕ) (n m : Fault) → Fails key u Says InRange Refused text n → Fails key u Says InRange Refused text m → n ≡ m
   fault_same text n m (form f) (form g) = refl
   fault_same text n m (form f) (unread b q k g) = absurd (f b q k)
   fault_same text n m (form f) (range b q y k s g) = absurd (f b q k)

@@ -4,6 +4,7 @@ pub mod Capped
 pub mod Cuts
 pub mod Exactly
 pub mod Fields
+pub mod Glued
 pub mod Listed
 pub mod OneReading
 pub mod Passing

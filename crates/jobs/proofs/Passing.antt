@@ -1,16 +1,23 @@
 -- One line after the other.
-use Rattle.std.proofs.Common.{◌≡◌, ℕ, suc, ◌+◌, ◌<◌, ◌≤◌, Bool, List, [], ◌∷◌, ◌++◌, length, Ok, Err, Result, sym, refl, ap, ◌∙◌, subst, arith, length-append}
-use Rattle.modular.specs.Matrix.{M2}
+use Rattle.std.proofs.Common.{◌≡◌, ℕ, suc, ◌+◌, ◌<◌, ◌≤◌, Bool, List, [], ◌∷◌, ◌++◌, map, length, vec_items, Ok, Err, MatchResult, codes, Result, Vec, sym, refl, ap, subst, inl, inr, arith, length-append}
+use Rattle.std.specs.declared.alloc.Global.{Global}
+use Rattle.modular.specs.Matrix.{M2, entries}
 use Rattle.jobs.specs.Bytes.{Keyed}
-use Rattle.jobs.specs.Format.{MatrixLine, LevelSaid, LevelLine, LevelFault, IsLevel}
-use Rattle.jobs.specs.Faults.{number_of}
-use Rattle.jobs.specs.Jobs.{Passed, on_line, Head, FirstFault, in_matrix, Reads, ReadsMatrices}
-use Rattle.jobs.specs.Line.{range}
+use Rattle.jobs.specs.Format.{KindLine, MirrorLine, MatrixLine, LevelSaid, LevelFault, RefusedLevel}
+use Rattle.jobs.specs.Jobs.{Named, NamedFault, Passed, Tail, TailFault, in_matrix, in_named, in_tail, mirror_on, Faulty, after_kind, on_line, made_on_line, Told, ReadsBy, ReadsMatrices}
+use Rattle.jobs.specs.Line.{refused}
 use Rattle.jobs.specs.declared.fault.Fault.{Fault}
 use Rattle.jobs.specs.declared.fault.Refusal.{Refusal}
 use Rattle.jobs.specs.declared.fault.Error.{Error}
 use Rattle.jobs.specs.declared.fault.Error.TheVariants.{Refused, Memory}
-use Rattle.jobs.specs.declared.job.Kind.{Kind}
+use Rattle.jobs.specs.Objects.{Thing}
+use Rattle.jobs.specs.declared.fault.LineError.{LineError}
+use Rattle.jobs.specs.declared.fault.LineError.TheVariants as line_error
+use Rattle.jobs.specs.declared.job.Job.{Job}
+use Rattle.jobs.specs.declared.job.Subject.{Subject}
+use Rattle.jobs.specs.declared.job.Subject.TheVariants.{Origami}
+use Rattle.jobs.specs.Squares.{RightLine, ReadsRight, ReadsUp}
+use Rattle.origami.specs.declared.origami.Origami as origami
 
 -- what was read is not changed by the line's number
 pub line_ok : {T : Type 0} (k : ℕ) (r : Result T Fault) (x : T) → on_line k r ≡ Ok x → r ≡ Ok x
@@ -21,6 +28,19 @@ line_ok k (Err f) x e = let z : ◌≡◌ {A = ℕ} 0 1 = cc in absurd (omega ar
 pub line_err : {T : Type 0} (k : ℕ) (r : Result T Fault) (e : Refusal) → on_line k r ≡ Err e → (r ≡ Err e.fault) × (e.line ≡ k)
 line_err k (Ok y) e h = let z : ◌≡◌ {A = ℕ} 0 1 = cc in absurd (omega arith)
 line_err k (Err f) e h = let g : record { fault = f; line = k } ≡ e = cc in (ap (λ x. Err x.fault) g, sym (ap (λ x. x.line) g))
+
+-- the same where memory may have run out
+pub made_ok : {T : Type 0} (k : ℕ) (r : Result T LineError) (x : T) → made_on_line k r ≡ Ok x → r ≡ Ok x
+made_ok k (Ok y) x e = let g : y ≡ x = cc in ap Ok g
+made_ok k (Err (line_error.Faulty f)) x e = let z : ◌≡◌ {A = ℕ} 0 1 = cc in absurd (omega arith)
+made_ok k (Err line_error.Memory) x e = let z : ◌≡◌ {A = ℕ} 0 1 = cc in absurd (omega arith)
+
+pub made_err : {T : Type 0} (k : ℕ) (r : Result T LineError) (f : Refusal) → made_on_line k r ≡ Err (Refused f) → (r ≡ Err (line_error.Faulty f.fault)) × (f.line ≡ k)
+made_err k (Ok y) f e = let z : ◌≡◌ {A = ℕ} 0 1 = cc in absurd (omega arith)
+made_err k (Err (line_error.Faulty g)) f e =
+    let h : record { fault = g; line = k } ≡ f = cc in
+    (ap (λ x. Err (line_error.Faulty x.fault)) h, sym (ap (λ x. x.line) h))
+made_err k (Err line_error.Memory) f e = let z : ◌≡◌ {A = ℕ} 0 1 = cc in absurd (omega arith)
 
 -- a line takes some of the text
 pub line_shortens : (key text body rest : List ℕ) → Keyed key text body rest → length rest < length text
@@ -40,15 +60,42 @@ pub empty_text : (text : List ℕ) → length text ≡ 0 → text ≡ []
 empty_text [] e = refl
 empty_text (b ∷ text) e = absurd (omega arith)
 
--- a fault of the matrix lines is the first fault of the text
-pub matrices_fault : (text : List ℕ) (k : Kind) (l : ℕ) (b : Bool) (past : List ℕ) → length text ≤ 4096 → Head text k l b past → (e : Error) → ReadsMatrices past (Err e) → Reads text (Err e)
-matrices_fault text k l b past short h (Refused f) m =
-    subst (λ line. FirstFault text (number_of f.fault) line) (sym m.5) (in_matrix _ k l b past m.1 m.0 short h m.2 m.3 m.4)
-matrices_fault text k l b past short h Memory m = tt
+-- a fault of the matrix lines is one of the tail
+pub tail_matrices : (k : ℕ) (text : List ℕ) (b : Bool) (past : List ℕ) → MirrorLine text b past → (e : Error) → ReadsMatrices (k + 1) past (Err e) → Told (TailFault k text) e
+tail_matrices k text b past l (Refused f) m =
+    subst (λ line. TailFault k text f.fault line) (sym m.5) (in_matrix _ b past m.1 m.0 l m.2 m.3 m.4)
+tail_matrices k text b past l Memory m = tt
 
--- a number that is said is a level where there is such a level, and else out of range
-pub level_said : (text : List ℕ) (n k : ℕ) (rest : List ℕ) → LevelSaid text n rest → k ≡ n → IsLevel k → LevelLine text k rest
-level_said text n k rest l e h = record { body = l.body; keyed = l.keyed; says = (l.says.0, e ∙ l.says.1); range = h; made = l.made }
+-- below a first line that passes
+module _ {S : Type 0} (subject : S → Subject) (text : List ℕ) (s : S) (past : List ℕ) (short : length text ≤ 4096) (l : KindLine subject text s past) where
+  -- a fault of the lines that say what a job is about is one of the job
+  pub named_fails : (e : Error) → Told (NamedFault (subject s) past) e → Told (Faulty subject text) e
+  named_fails (Refused f) h = after_kind _ _ s past short l (in_named _ _ h)
+  named_fails Memory h = tt
 
-pub no_level : (text : List ℕ) (n : ℕ) (rest : List ℕ) → LevelSaid text n rest → (IsLevel n → ⊥) → LevelFault text 3
-no_level text n rest l f = range l.body rest n l.keyed l.says f
+  -- and so is a fault of the tail; else the text spells the job
+  pub reads_tail : {G : Type 0} (thing : G → Thing) (given : G) (rest : List ℕ) → Named (subject s) past (thing given) rest
+      → (r : Result (Job G) Error)
+      → MatchResult r (λ j. (j.given ≡ given) × Tail rest j.mirror (map entries (vec_items j.matrices))) (Told (TailFault (mirror_on (subject s)) rest))
+      → ReadsBy subject thing text r
+  reads_tail thing given rest n (Ok j) h =
+      record { short = short; named = s; past = past; kind = l; rest = record { past = rest; named = subst (λ g. Named (subject s) past (thing g) rest) (sym h.0) n; tail = h.1 } }
+  reads_tail thing given rest n (Err (Refused f)) h = after_kind _ _ s past short l (in_tail _ _ (thing given) rest n h)
+  reads_tail thing given rest n (Err Memory) h = tt
+
+-- a number that is said and is no level is the fault of its line
+pub no_level : (text : List ℕ) (n : ℕ) (rest : List ℕ) (f : Fault) → LevelSaid text n rest → RefusedLevel n f → LevelFault text f
+no_level text n rest f l r = refused l.body rest n f l.keyed l.says l.range r
+
+-- a fault of the list of right or of up is one of the lines that say what a job is about
+pub right_fails : (text body rest : List ℕ) (r : Result (Vec ℕ Global) LineError) → Keyed (codes "right=") text body rest → ReadsRight body r → (e : Error) → made_on_line 2 r ≡ Err e → Told (NamedFault Origami text) e
+right_fails text body rest r k h (Refused f) e =
+    let p = made_err 2 r f e in
+    inl (subst (ReadsRight body) p.0 h text rest k, p.1)
+right_fails text body rest r k h Memory e = tt
+
+pub up_fails : (text xs past body rest : List ℕ) (r : Result origami.Origami LineError) → RightLine text xs past → Keyed (codes "up=") past body rest → ReadsUp xs body r → (e : Error) → made_on_line 3 r ≡ Err e → Told (NamedFault Origami text) e
+up_fails text xs past body rest r l k h (Refused f) e =
+    let p = made_err 3 r f e in
+    inr (xs, past, l, subst (ReadsUp xs body) p.0 h past rest k, p.1)
+up_fails text xs past body rest r l k h Memory e = tt

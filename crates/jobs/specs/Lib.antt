@@ -9,3 +9,4 @@ pub mod Numbers
 pub mod Objects
 pub mod Ranges
 pub mod Replies
+pub mod Squares

@@ -1,6 +1,6 @@
 -- Which matrices belong to the group of a job, and the lines that say so.
 --     InGroup k n m       m has the congruences modulo n that define the group of kind k
---     IsMember j m        m is a member of the action of the job j: that of its kind at its level, or the mirror above that
+--     IsMember j m        m is a member of the action of the job j: that of the thing that it is about, or the mirror above that
 --     Answers j text      the text has a line for each matrix of the job: member=yes or member=no
 use Rattle.std.specs.Prelude.{◌≡◌, ℕ, Bool, true, false, List, [], ◌∷◌, ◌++◌, pos, codes, Decides}
 use Rattle.modular.specs.Matrix.{M2}
@@ -10,7 +10,10 @@ use Rattle.levels.specs.Lines as lines
 use Rattle.levels.specs.Matrices as matrices
 use Rattle.levels.specs.Vectors as vectors
 use Rattle.numbers.specs.Residues.{Cong}
+use Rattle.origami.specs.Forms.{least}
+use Rattle.origami.specs.Origamis.{sheared_form, turned_form}
 use Rattle.jobs.specs.Jobs.{Task}
+use Rattle.jobs.specs.Objects.{Thing, level, squares}
 use Rattle.jobs.specs.declared.job.Kind.{Kind}
 use Rattle.jobs.specs.declared.job.Kind.TheVariants.{Lines, Vectors, Matrices}
 
@@ -24,14 +27,15 @@ abbrev pub SeenMember : {R : Type 0} → Bool → R → (R → R) → (R → R) 
 SeenMember false start t s m = Member start t s m
 SeenMember true start t s m = Member start (lead t s back_t) (lead t s back_s) m
 
--- the members of the action of a kind at a level, or of its mirror
-abbrev pub ActionMember : Kind → ℕ → Bool → M2 → Type 0
-ActionMember Lines n b = SeenMember b (vectors.first n) (lines.sheared n) (lines.turned n)
-ActionMember Vectors n b = SeenMember b (vectors.first n) (vectors.sheared n) (vectors.turned n)
-ActionMember Matrices n b = SeenMember b (matrices.first n) (matrices.sheared n) (matrices.turned n)
+-- the members of the action of a thing, or of its mirror
+abbrev pub ActionMember : Thing → Bool → M2 → Type 0
+ActionMember (level Lines n) b = SeenMember b (vectors.first n) (lines.sheared n) (lines.turned n)
+ActionMember (level Vectors n) b = SeenMember b (vectors.first n) (vectors.sheared n) (vectors.turned n)
+ActionMember (level Matrices n) b = SeenMember b (matrices.first n) (matrices.sheared n) (matrices.turned n)
+ActionMember (squares g) b = SeenMember b (least g) sheared_form turned_form
 
 abbrev pub IsMember : Task → M2 → Type 0
-IsMember j m = ActionMember j.kind j.level j.mirror m
+IsMember j m = ActionMember j.thing j.mirror m
 
 abbrev pub answer_line : Bool → List ℕ
 answer_line true = codes "member=yes" ++ 10 ∷ []

@@ -4,10 +4,10 @@ use Rattle.jobs.specs.Format.{IsEntry}
 use Rattle.jobs.specs.Numbers.{capped}
 use Rattle.modular.specs.Matrix.{M2}
 use Rattle.jobs.specs.declared.lines.Place.{Place}
-use Rattle.jobs.specs.declared.lines.Place.TheVariants.{Level, Matrix}
+use Rattle.jobs.specs.declared.lines.Place.TheVariants.{Natural, Matrix}
 
 abbrev pub Fits : Place → ℤ → Type 0
-Fits Level z = z ≤ℤ pos 1000000000
+Fits Natural z = z ≤ℤ pos 1000000000
 Fits (Matrix before) z = (before < 100) × IsEntry z
 
 -- each entry as it is read, up to the cap

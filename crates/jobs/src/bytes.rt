@@ -6,12 +6,8 @@ ghost use Rattle.std.specs.Option.{MatchOption};
 pub fn split(text: &[u8], at: u8) -> Option<(&[u8], &[u8])>
     ensures { MatchOption result (Lacks at text.now) (λ p. Split at text.now p.0.now p.1.now) }
 {
-    for (i, byte) in text.iter().enumerate() {
-        if *byte == at {
-            return Some((&text[0..i], &text[i + 1..]));
-        }
-    }
-    None
+    let i = text.iter().position(|byte| *byte == at)?;
+    Some((&text[0..i], &text[i + 1..]))
 }
 
 // The line at the front of the text, where it begins with `key` and has its line feed: what stands between the two, and

@@ -1,10 +1,12 @@
 // What is wrong with a job, and on which line.
 ghost use Rattle.std.specs.Prelude.{◌≡◌, Some};
 ghost use Rattle.jobs.specs.declared.fault.Error.TheVariants.{Memory, Refused};
-ghost use Rattle.jobs.specs.declared.fault.Fault.TheVariants.{Field, Level, Matrix};
+ghost use Rattle.jobs.specs.declared.fault.Fault.TheVariants.{Field, Level, Origami, Matrix};
+ghost use Rattle.jobs.specs.declared.fault.LineError.TheVariants.{Faulty, Memory as LineMemory};
 ghost use Rattle.jobs.specs.Faults.{number_of, refusal_text};
 
 use levels::level::Refusal as LevelRefusal;
+use origami::refusal::Refusal as OrigamiRefusal;
 use std::alloc::{AllocError, AllocFailed as NoRoom};
 use std::fmt;
 
@@ -27,6 +29,7 @@ pub enum Fault {
     Field(FieldFault),
     Range,
     Level(LevelRefusal),
+    Origami(OrigamiRefusal),
     Matrix(MatrixFault),
 }
 
@@ -43,6 +46,14 @@ impl From<LevelRefusal> for Fault {
 
     fn from(refusal: LevelRefusal) -> Fault {
         Fault::Level(refusal)
+    }
+}
+
+impl From<OrigamiRefusal> for Fault {
+    ghost from_gives = { λ e r. r ≡ Origami e };
+
+    fn from(declined: OrigamiRefusal) -> Fault {
+        Fault::Origami(declined)
     }
 }
 
@@ -64,8 +75,49 @@ impl Fault {
             Fault::Field(FieldFault::Unreadable) => 2,
             Fault::Range => 3,
             Fault::Level(refusal) => refusal.number(),
+            Fault::Origami(refusal) => refusal.number(),
             Fault::Matrix(MatrixFault::Determinant) => 6,
         }
+    }
+}
+
+// Why a line gave no list or no object: it is faulty, or memory ran out.
+// Not one type with Error, generic in the fault: what converts into each differs, so they would share these four lines alone.
+#[derive(Clone, Copy, Debug, PartialEq, Eq)]
+pub enum LineError {
+    Faulty(Fault),
+    Memory,
+}
+
+impl From<Fault> for LineError {
+    ghost from_gives = { λ e r. r ≡ Faulty e };
+
+    fn from(fault: Fault) -> LineError {
+        LineError::Faulty(fault)
+    }
+}
+
+impl From<FieldFault> for LineError {
+    ghost from_gives = { λ e r. r ≡ Faulty (Field e) };
+
+    fn from(fault: FieldFault) -> LineError {
+        LineError::Faulty(Fault::from(fault))
+    }
+}
+
+impl From<OrigamiRefusal> for LineError {
+    ghost from_gives = { λ e r. r ≡ Faulty (Origami e) };
+
+    fn from(refusal: OrigamiRefusal) -> LineError {
+        LineError::Faulty(Fault::from(refusal))
+    }
+}
+
+impl<T: Drop> From<NoRoom<T>> for LineError {
+    ghost from_gives = { λ _ r. r ≡ LineMemory };
+
+    fn from(_: NoRoom<T>) -> LineError {
+        LineError::Memory
     }
 }
 

@@ -1,4 +1,5 @@
-// Jobs: from the text of a job to a value, or to the refusal of its first faulty line.
+// Jobs: from the text of a job to a value, or to the refusal of its first faulty line; and a member line for each matrix of
+// a level job.
 #![tactic(auto)]
 
 mod bytes;
@@ -11,3 +12,4 @@ mod number;
 pub mod object;
 pub mod read;
 pub mod reply;
+mod squares;

@@ -1,106 +1,79 @@
 // The lines of a job, each read at the front of a text and handed on with the text after it.
-ghost use Rattle.std.specs.Prelude.{◌≡◌, ℕ, Bool, List, ℤ, pos, Decides, MatchOption, MatchResult, ◌≢◌};
-ghost use Rattle.jobs.specs.Faults.{number_of};
-ghost use Rattle.jobs.specs.Format.{KindLine, KindFault, SaysKind, LevelSaid, LevelFault, MirrorLine, MirrorFault, SaysMirror, MatrixLine, MatrixFaulty, SaysMatrix, IsMatrix, Entry};
+ghost use Rattle.std.specs.Prelude.{◌≡◌, ℕ, List, ℤ, pos, MatchResult, ◌≢◌};
+ghost use Rattle.jobs.specs.Bytes.{Keyed, Unkeyed};
+ghost use Rattle.jobs.specs.Format.{every, KindLine, KindFault, LevelSaid, LevelFault, MirrorLine, MirrorFault, MatrixLine, MatrixFaulty, SaysMatrix, IsMatrix, Entry};
 ghost use Rattle.jobs.specs.Numbers.{capped};
 ghost use Rattle.jobs.specs.Ranges.{Fits, capped_matrix};
-ghost use Rattle.jobs.specs.declared.fault.Fault.TheVariants.{Range};
+ghost use Rattle.jobs.specs.declared.fault.Fault.TheVariants.{Form, Range};
 ghost use Rattle.jobs.specs.declared.fault.FieldFault.TheVariants.{Unreadable};
 ghost use Rattle.jobs.specs.declared.fault.MatrixFault.TheVariants.{Determinant};
 ghost use Rattle.modular.specs.Matrix.{M2, entries, rows, det};
 
 use crate::fault::{Fault, FieldFault, MatrixFault};
-use crate::job::Kind;
+use crate::job::{Kind, Subject};
 use crate::{bytes, number};
 use modular::matrix;
 use modular::matrix::Matrix;
 
-// Which line a number stands on; a matrix line by how many matrix lines stand before it.
+// Where a number stands: on a line whose numbers have no sign, or on a matrix line with so many matrix lines before it.
 #[derive(Clone, Copy)]
 pub enum Place {
-    Level,
+    Natural,
     Matrix(usize),
 }
 
 // Whether a number is in the range of its line.
-fn ranged(place: Place, number: i64) -> Result<(), Fault>
+pub fn ranged(place: Place, number: i64) -> Result<(), Fault>
     ensures { MatchResult result (λ _. Fits place number) (λ e. (e ≡ Range) × (Fits place number → ⊥)) }
 {
     match (place, number) {
-        (Place::Level, n) if n > 1_000_000_000 => Err(Fault::Range),
+        (Place::Natural, n) if n > 1_000_000_000 => Err(Fault::Range),
         (Place::Matrix(before), n) if before >= 100 || n < -1_000_000_000 || n > 1_000_000_000 =>
             Err(Fault::Range),
         _ => Ok(()),
     }
 }
 
-fn is(body: &[u8], name: &[u8]) -> bool
-    ensures { Decides result (body.now ≡ name.now) }
+// The body of the line at the front of a text, behind its key, and the text after the line.
+pub fn body<'a>(key: &[u8], text: &'a [u8]) -> Result<(&'a [u8], &'a [u8]), Fault>
+    ensures { MatchResult result (λ p. Keyed key.now text.now p.0.now p.1.now) (λ e. (e ≡ Form) × Unkeyed key.now text.now) }
 {
-    body == name
+    bytes::keyed(key, text).ok_or(Fault::Form)
 }
 
-fn kind_named(name: &[u8]) -> Option<Kind>
-    ensures { MatchOption result ((k : Kind) → SaysKind name.now k → ⊥) (λ k. SaysKind name.now k) }
+// `kind=` and the name of a subject.
+pub fn kind_line(text: &[u8]) -> Result<(Subject, &[u8]), Fault>
+    ensures { MatchResult result (λ p. KindLine every text.now p.0 p.1.now) (λ e. KindFault every text.now e) }
 {
-    if is(name, b"lines") {
-        Some(Kind::Lines)
-    } else if is(name, b"vectors") {
-        Some(Kind::Vectors)
-    } else if is(name, b"matrices") {
-        Some(Kind::Matrices)
-    } else {
-        None
-    }
-}
-
-fn mirror_named(name: &[u8]) -> Option<bool>
-    ensures { MatchOption result ((b : Bool) → SaysMirror name.now b → ⊥) (λ b. SaysMirror name.now b) }
-{
-    if is(name, b"yes") {
-        Some(true)
-    } else if is(name, b"no") {
-        Some(false)
-    } else {
-        None
-    }
-}
-
-// `kind=` and the name of a kind.
-pub fn kind_line(text: &[u8]) -> Result<(Kind, &[u8]), Fault>
-    ensures { MatchResult result (λ p. KindLine text.now p.0 p.1.now) (λ e. KindFault text.now (number_of e)) }
-{
-    let Some((body, rest)) = bytes::keyed(b"kind=", text) else {
-        return Err(Fault::Form);
-    };
-    match kind_named(body) {
-        Some(kind) => Ok((kind, rest)),
-        None => Err(Fault::Form),
+    let (body, rest) = body(b"kind=", text)?;
+    match body {
+        b"lines" => Ok((Subject::Level(Kind::Lines), rest)),
+        b"vectors" => Ok((Subject::Level(Kind::Vectors), rest)),
+        b"matrices" => Ok((Subject::Level(Kind::Matrices), rest)),
+        b"origami" => Ok((Subject::Origami, rest)),
+        _ => Err(Fault::Form),
     }
 }
 
 // `level=` and a number; whether there is such a level is left to the maker of the object.
 pub fn level_line(text: &[u8]) -> Result<(u32, &[u8]), Fault>
-    ensures { MatchResult result (λ p. LevelSaid text.now p.0 p.1.now) (λ e. LevelFault text.now (number_of e)) }
+    ensures { MatchResult result (λ p. LevelSaid text.now p.0 p.1.now) (λ e. LevelFault text.now e) }
 {
-    let Some((body, rest)) = bytes::keyed(b"level=", text) else {
-        return Err(Fault::Form);
-    };
+    let (body, rest) = body(b"level=", text)?;
     let level = number::natural(body)?;
-    ranged(Place::Level, i64::from(level))?;
+    ranged(Place::Natural, i64::from(level))?;
     Ok((level, rest))
 }
 
 // `mirror=` and yes or no.
 pub fn mirror_line(text: &[u8]) -> Result<(bool, &[u8]), Fault>
-    ensures { MatchResult result (λ p. MirrorLine text.now p.0 p.1.now) (λ e. MirrorFault text.now (number_of e)) }
+    ensures { MatchResult result (λ p. MirrorLine text.now p.0 p.1.now) (λ e. MirrorFault text.now e) }
 {
-    let Some((body, rest)) = bytes::keyed(b"mirror=", text) else {
-        return Err(Fault::Form);
-    };
-    match mirror_named(body) {
-        Some(mirror) => Ok((mirror, rest)),
-        None => Err(Fault::Form),
+    let (body, rest) = body(b"mirror=", text)?;
+    match body {
+        b"yes" => Ok((true, rest)),
+        b"no" => Ok((false, rest)),
+        _ => Err(Fault::Form),
     }
 }
 
@@ -108,9 +81,7 @@ pub fn mirror_line(text: &[u8]) -> Result<(bool, &[u8]), Fault>
 fn entry_then(body: &[u8]) -> Result<(i64, &[u8]), FieldFault>
     ensures { MatchResult result (λ p. (z : ℤ) × Entry body.now z p.1.now × (p.0 ≡ capped z)) (λ e. (e ≡ Unreadable) × ((z : ℤ) (rest : List ℕ) → Entry body.now z rest → ⊥)) }
 {
-    let Some((field, rest)) = bytes::split(body, b',') else {
-        return Err(FieldFault::Unreadable);
-    };
+    let (field, rest) = bytes::split(body, b',').ok_or(FieldFault::Unreadable)?;
     Ok((number::integer(field)?, rest))
 }
 
@@ -148,11 +119,9 @@ fn unimodular(m: Matrix) -> Result<(), MatrixFault>
 
 // `matrix=` and four numbers; `before` matrix lines stand before it.
 pub fn matrix_line(text: &[u8], before: usize) -> Result<(Matrix, &[u8]), Fault>
-    ensures { MatchResult result (λ p. MatrixLine before text.now (entries p.0) p.1.now) (λ e. MatrixFaulty before text.now (number_of e)) }
+    ensures { MatchResult result (λ p. MatrixLine before text.now (entries p.0) p.1.now) (λ e. MatrixFaulty before text.now e) }
 {
-    let Some((body, rest)) = bytes::keyed(b"matrix=", text) else {
-        return Err(Fault::Form);
-    };
+    let (body, rest) = body(b"matrix=", text)?;
     let m = four_entries(body)?;
     in_range(before, m)?;
     unimodular(m)?;

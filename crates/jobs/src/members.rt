@@ -1,6 +1,6 @@
 // Which matrices belong to the group of a job.
 ghost use Rattle.std.specs.Prelude.{◌≡◌, IfOk, string_bytes, Decides};
-ghost use Rattle.jobs.specs.Jobs.{task};
+ghost use Rattle.jobs.specs.Jobs.{level_task};
 ghost use Rattle.jobs.specs.Members.{Answers, InGroup, IsMember, answer_line};
 ghost use Rattle.jobs.specs.Objects.{kind_of, level_of};
 ghost use Rattle.modular.specs.Matrix.{entries};
@@ -40,10 +40,10 @@ fn in_group(object: Object, m: Matrix) -> bool
 
 // Whether a matrix is a member of the job's action. A sign on b and c changes no congruence with 0, so the group of a level
 // is its own mirror.
-pub fn is_member(job: &Job, m: Matrix) -> bool
-    ensures { Decides result (IsMember (task job.now) (entries m)) }
+pub fn is_member(job: &Job<Object>, m: Matrix) -> bool
+    ensures { Decides result (IsMember (level_task job.now) (entries m)) }
 {
-    matrix::determinant(m) == 1 && in_group(job.object, m)
+    matrix::determinant(m) == 1 && in_group(job.given, m)
 }
 
 fn answer(member: bool) -> &'static str
@@ -57,11 +57,11 @@ fn answer(member: bool) -> &'static str
 }
 
 // A line for each matrix of the job.
-pub fn answers(heap: Global, job: &Job) -> Result<String, AllocError>
-    ensures { IfOk result (λ s. Answers (task job.now) (string_bytes s)) }
+pub fn answers(heap: Global, job: &Job<Object>) -> Result<String, AllocError>
+    ensures { IfOk result (λ s. Answers (level_task job.now) (string_bytes s)) }
 {
     let mut text = String::new(heap);
-    for m in job.matrices.as_slice() {
+    for m in &job.matrices {
         text.push_str(answer(is_member(job, *m)))?;
     }
     Ok(text)

@@ -1,37 +1,45 @@
 // From the text of a job to the text that answers it.
-ghost use Rattle.jobs.specs.Replies.{Replies};
-ghost use Rattle.std.specs.Prelude.{IfOk, string_bytes};
+ghost use Rattle.jobs.specs.Replies.{NamesFault, Replies, reply_bytes};
+ghost use Rattle.std.specs.Prelude.{◌≡◌, IfOk};
 
 use crate::fault::Error;
 use crate::{members, read};
 use std::alloc::{AllocError, Global};
 
-// What is printed for a text, and whether it was accepted.
+// What is printed for a text: the answers of one that is accepted, or why it is declined.
 #[derive(Drop)]
-pub struct Reply {
-    pub text: String,
-    pub accepted: bool,
+pub enum Reply {
+    Accepted(String),
+    Declined(String),
 }
 
-// The answers to a job, or the refusal of its first faulty line.
-pub fn reply_to(heap: Global, text: &[u8]) -> Result<Reply, AllocError>
-    ensures { IfOk result (λ p. Replies text.now (string_bytes p.text) p.accepted) }
+impl Reply {
+    // What is printed.
+    pub fn text(&self) -> &str
+        ensures { result.now ≡ reply_bytes self.now }
+    {
+        match self {
+            Reply::Accepted(text) | Reply::Declined(text) => text.as_str(),
+        }
+    }
+}
+
+// The reply to a text that gave no job.
+pub fn declined(heap: Global, error: Error) -> Result<Reply, AllocError>
+    ensures { IfOk result (NamesFault error) }
 {
-    match read::read(heap, text) {
-        Ok(job) => {
-            let text = members::answers(heap, &job)?;
-            Ok(Reply {
-                text,
-                accepted: true,
-            })
-        }
-        Err(Error::Refused(refusal)) => {
-            let text = format!(in heap; "{refusal}\n")?;
-            Ok(Reply {
-                text,
-                accepted: false,
-            })
-        }
-        Err(Error::Memory) => Err(AllocError),
+    match error {
+        Error::Refused(refusal) => Ok(Reply::Declined(format!(in heap; "{refusal}\n")?)),
+        Error::Memory => Err(AllocError),
+    }
+}
+
+// The answers to a level job, or the refusal of its first faulty line.
+pub fn reply_to(heap: Global, text: &[u8]) -> Result<Reply, AllocError>
+    ensures { IfOk result (Replies text.now) }
+{
+    match read::read_level(heap, text) {
+        Ok(job) => Ok(Reply::Accepted(members::answers(heap, &job)?)),
+        Err(error) => declined(heap, error),
     }
 }

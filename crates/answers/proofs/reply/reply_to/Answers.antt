@@ -1,14 +1,15 @@
 -- The listing of the job that was read, or why there is none.
-use Rattle.std.proofs.Common.{◌≡◌, ℕ, false, List, IfOk, Ok, Err, string_bytes, Result, sym, ap, ◌∙◌, subst, inr}
+use Rattle.std.proofs.Common.{List, ℕ, IfOk, Ok, Err, Result, ap, ◌∙◌, inr}
 use Rattle.std.specs.declared.alloc.AllocError.{AllocError}
 use Rattle.listing.specs.declared.error.Error.{Error}
-use Rattle.listing.specs.declared.error.Error.TheVariants.{Declined}
-use Rattle.table.specs.declared.refusal.Refusal.{Refusal}
+use Rattle.listing.specs.declared.error.Error.TheVariants.{Declined, Memory}
 use Rattle.table.specs.Refusals.{number_of, place_of}
-use Rattle.job_texts.specs.Jobs.{Task, SpellsJob, task}
-use Rattle.answers.specs.declared.reply.Reply.{Reply}
+use Rattle.jobs.specs.Jobs.{Task, SpellsJob, task}
+use Rattle.jobs.specs.Replies.{refused_line}
+use Rattle.jobs.specs.declared.reply.Reply.{Reply}
+use Rattle.jobs.specs.declared.reply.Reply.TheVariants as reply
 use Rattle.answers.specs.Answers.{GrownFor}
-use Rattle.answers.specs.Replies.{Replies, refused_line}
+use Rattle.answers.specs.Replies.{NamesRefusal, Replies}
 use Rattle.answers.proofs.Replying.{grown_lists, grown_crowds, job_placed}
 use Rattle.answers.proofs.reply.reply_to.Goals as goal
 
@@ -19,12 +20,13 @@ returns-in-Ok-answer c =
 
 -- a refusal of the table's says that it has too many rows
 crowded : (text : List ℕ) (j : Task) (e : Error) (r : Result Reply AllocError) → SpellsJob text j → GrownFor j.thing j.mirror j.matrices (Err e)
-    → IfOk r (λ p. (x : Refusal) × (e ≡ Declined x) × (string_bytes p.text ≡ refused_line (number_of x) (place_of x)) × (p.accepted ≡ false))
-    → IfOk r (λ p. Replies text (string_bytes p.text) p.accepted)
+    → IfOk r (NamesRefusal e) → IfOk r (Replies text)
 crowded text j e (Err f) s g h = tt
-crowded text j e (Ok p) s g (x, q, w, f) =
-    let c = grown_crowds j.thing j.mirror j.matrices x (subst (λ e. GrownFor j.thing j.mirror j.matrices (Err e)) q g) (job_placed text j x s) in
-    subst (λ b. Replies text (string_bytes p.text) b) (sym f) (inr (j, s, c.1, w ∙ ap (λ x. refused_line (number_of x) (place_of x)) c.0))
+crowded text j (Declined x) (Ok (reply.Declined t)) s g h =
+    let c = grown_crowds j.thing j.mirror j.matrices x g (job_placed text j x s) in
+    inr (j, s, c.1, h ∙ ap (λ x. refused_line (number_of x) (place_of x)) c.0)
+crowded text j (Declined x) (Ok (reply.Accepted t)) s g h = absurd h
+crowded text j Memory (Ok p) s g h = absurd h
 
-pub returns : goal.returns
-returns c = crowded c.args.text.now (task c.in-Ok.job) _ _ c.in-Ok.ensures.reads c.in-Err.ensures c.unlisted.ensures
+pub returns-in-Ok : goal.returns-in-Ok
+returns-in-Ok c = crowded c.args.text.now (task c.in-Ok.job) _ _ c.in-Ok.ensures.reads c.in-Err-answer.ensures c.unlisted.ensures

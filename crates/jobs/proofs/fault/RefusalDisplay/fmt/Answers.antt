@@ -1,5 +1,0 @@
--- The number that is written is the fault's.
-use Rattle.jobs.proofs.fault.RefusalDisplay.fmt.Goals as goal
-
-pub returns-clause-writes : goal.returns-clause-writes
-returns-clause-writes g c = rw (← c.number-number.ensures) c.write.ensures.writes
