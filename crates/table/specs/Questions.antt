@@ -16,7 +16,7 @@ use Rattle.std.specs.Int.Signed.{non_neg}
 use Rattle.modular.specs.declared.letter.Letter.{Letter}
 use Rattle.modular.specs.declared.letter.Letter.TheVariants.{T, S}
 use Rattle.modular.specs.Matrix.{M2, det, identity, rows, ◌·◌}
-use Rattle.modular.specs.Words.{of_letter}
+use Rattle.modular.specs.Words.{name_of, of_letter}
 use Rattle.table.specs.declared.link.Link.{Link}
 use Rattle.table.specs.declared.refusal.Refusal.{Refusal}
 use Rattle.table.specs.declared.refusal.Refusal.TheVariants.{Range, Determinant, Length, NoSuch, Wide}
@@ -42,8 +42,7 @@ abbrev pub placing : List Link → M2 → Result ℕ Refusal
 placing links x = place_by (within 1000000000 x) (is_one (det x)) (placed links x)
 
 abbrev pub character : Letter → ℕ
-character T = 84
-character S = 83
+character = name_of
 
 abbrev pub characters : List Letter → List ℕ
 characters w = map character w

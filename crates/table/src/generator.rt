@@ -15,7 +15,7 @@ use modular::letter::Letter;
 use modular::matrix;
 use modular::matrix::Matrix;
 
-// The letter that a written character stands for.
+// The letter that a written character stands for. No TryFrom: the buffer has T and S alone, and any other byte would be S.
 fn letter_of(c: u8) -> Letter
     ensures { result ≡ written c }
 {

@@ -1,21 +1,10 @@
 // The word of a row, from its parents.
 ghost use Rattle.std.specs.Prelude.{◌≡◌, ◌≤◌, length};
 ghost use Rattle.table.specs.Acting.{word_of};
-ghost use Rattle.table.specs.Questions.{character, characters, spelling};
+ghost use Rattle.table.specs.Questions.{characters, spelling};
 
 use crate::links::Links;
 use crate::refusal::Refusal;
-use modular::letter::Letter;
-
-// The character of a letter. `generator` reads it back; neither type is of this crate, so neither way is a `From`.
-fn character(letter: Letter) -> u8
-    ensures { result ≡ character letter }
-{
-    match letter {
-        Letter::T => b'T',
-        Letter::S => b'S',
-    }
-}
 
 impl<'a> Links<'a> {
     // How many letters the word of a row has. A parent is a lower row, so there are no more than the row's number says.
@@ -42,7 +31,7 @@ impl<'a> Links<'a> {
         let mut q = row;
         for k in (0..out.len()).rev() {
             let reached = self.at(q);
-            out[k] = character(reached.letter);
+            out[k] = u8::from(reached.letter);
             q = reached.parent;
         }
     }

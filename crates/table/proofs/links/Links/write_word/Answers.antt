@@ -29,10 +29,10 @@ loop-k-preserved c =
     let l : j < length w = omega (arith, c.requires, c.loop-k.auto.k, c.loop-k-test.true) in
     let f : c.args.row - (length out - c.loop-k.k) - 1 ≡ c.args.row - (length out - j) = omega (arith, c.loop-k.auto.k, c.loop-k-test.true) in
     let s = spelled_last links (c.args.row - (length out - c.loop-k.k)) c.loop-k.q j w l (c.loop-k.invariant.0 ∙ ap (λ i. take i w) e) in
-    let x : get_or (characters w) j 0 ≡ c.character.result = get_or-map character w j T 0 l ∙ ap character (sym s.1 ∙ ap (λ r. r.letter) (sym c.at-reached.ensures)) ∙ sym c.character.ensures in (
+    let x : get_or (characters w) j 0 ≡ c.from.result = get_or-map character w j T 0 l ∙ ap character (sym s.1 ∙ ap (λ r. r.letter) (sym c.at-reached.ensures)) ∙ sym c.from.ensures in (
       ap (λ r. spelled links (c.args.row - (length out - j)) r.parent) c.at-reached.ensures ∙ sym (ap (λ i. spelled links i (at links c.loop-k.q).parent) f) ∙ s.0,
-      ap (λ o. set o j c.character.result) (c.loop-k.invariant.1 ∙ ap (λ i. take i out ++ drop i (characters w)) e)
-          ∙ written_before out (characters w) j c.character.result (omega (arith, c.requires, c.loop-k.auto.k, c.loop-k-test.true)) (omega (arith, l, length-map w character)) x,
+      ap (λ o. set o j c.from.result) (c.loop-k.invariant.1 ∙ ap (λ i. take i out ++ drop i (characters w)) e)
+          ∙ written_before out (characters w) j c.from.result (omega (arith, c.requires, c.loop-k.auto.k, c.loop-k-test.true)) (omega (arith, l, length-map w character)) x,
     )
 
 pub returns : goal.returns
