@@ -13,7 +13,7 @@ const ROOM: usize = 9;
 // The largest entry and the largest limit.
 const LARGEST: i64 = 1_000_000_000;
 
-// A shape, for printing.
+// A shape, for printing: the type is of another crate, and a listing prints its numbers in other words.
 #[derive(Clone, Copy, PartialEq, Eq)]
 struct Whole(Shape);
 

@@ -41,7 +41,8 @@ impl<A: Action> Memory<A> {
         }
     }
 
-    // Fills a table until it declines, and answers how many fills it accepted.
+    // Fills a table until it declines, and answers how many fills it accepted. By fills and not by `fill_up`, since the count is
+    // what is compared.
     pub fn fill(&mut self, table: &mut Growing<A>) -> usize {
         for accepted in 0..MANY {
             if table.fill(&mut self.rows, &mut self.links).is_err() {

@@ -13,7 +13,7 @@ use table::refusal::Refusal;
 // The table of lines 2 has three rows.
 const ROOM: usize = 3;
 
-// The links of lines 2, written out.
+// The links of lines 2, written out. The tests of `listing` have them too: a test and a program share no crate for such values.
 const LINES_2: [Link; ROOM] = [
     Link {
         t: 0,

@@ -66,7 +66,7 @@ impl From<MatrixFault> for Fault {
 }
 
 impl Fault {
-    // The number under which the fault is known outside.
+    // The number under which the fault is known outside, which the rules of the project fix.
     pub fn number(self) -> u8
         ensures { result ≡ number_of self }
     {
@@ -121,7 +121,7 @@ impl<T: Drop> From<NoRoom<T>> for LineError {
     }
 }
 
-// A fault and the line that has it, counted from 1; line 0 is the text as a whole.
+// A fault and the line that has it, counted from 1; line 0 is the text as a whole, as a refusal prints it.
 #[derive(Clone, Copy, Debug, PartialEq, Eq)]
 pub struct Refusal {
     pub fault: Fault,

@@ -14,7 +14,7 @@ pub enum Refusal {
 }
 
 impl Refusal {
-    // The number under which the refusal is known.
+    // The number under which the refusal is known outside, which the rules of the project fix.
     pub fn number(self) -> u8
         ensures { result ≡ number self }
     {

@@ -17,7 +17,8 @@ pub struct Lines {
     vectors: Vectors,
 }
 
-// The multiple of v by u.
+// The multiple of v by u. The level comes first here and below: a struct of a level and a vector would be taken apart again at
+// once, since only vectors are kept and compared.
 fn scaled(level: Level, u: u8, v: Vector) -> Vector
     ensures { result ≡ scaled level.n u v }
 {

@@ -6,7 +6,8 @@ use std::alloc::AllocError;
 use std::fmt;
 use table::refusal::Refusal;
 
-// A matrix is declined, by the table's refusal, or memory ran out.
+// A matrix is declined, by the table's refusal, or memory ran out. The errors of `jobs` have the same shape, but other things
+// convert into them: of a generic one only this enum would be shared.
 #[derive(Clone, Copy)]
 pub enum Error {
     Declined(Refusal),

@@ -1,4 +1,6 @@
 // How the action on lines is made: a file of its own, since the promise is about the impl of the action.
+// The makers of the three actions are a line each and differ in what they promise: one generic maker would need a trait for the
+// promise alone, and each impl of it as many lines as stand here.
 ghost use Rattle.std.specs.Prelude.{◌≡◌, MatchResult};
 ghost use Rattle.levels.specs.contracts.lines.LinesAction.TheImpl.{ghosts as action};
 ghost use Rattle.levels.specs.Levels.{Declined};
