@@ -1,6 +1,7 @@
 // The listing that answers a job.
 ghost use Rattle.std.specs.Prelude.{map};
-ghost use Rattle.answers.specs.Answers.{GrownFor, seen_s, seen_t};
+ghost use Rattle.answers.specs.Answers.{GrownFor};
+ghost use Rattle.jobs.specs.Acting.{seen_s, seen_t};
 ghost use Rattle.jobs.specs.Jobs.{task};
 ghost use Rattle.jobs.specs.Objects.{kind_of, level, level_of};
 ghost use Rattle.listing.specs.Grown.{GrownOr};
@@ -33,7 +34,8 @@ fn seen<A: Action + Drop>(
     }
 }
 
-// The listing of a level action, or of the mirror above it.
+// The listing of a level action, or of the mirror above it. An arm for each kind: their points differ in type, so that an
+// Object is no action itself.
 fn level(heap: Global, object: Object, mirror: bool, matrices: &[Matrix]) -> Result<String, Error>
     ensures { GrownFor (level (kind_of object) (level_of object)) mirror (map entries matrices.now) result }
 {

@@ -1,3 +1,4 @@
+pub mod Acting
 pub mod Bytes
 pub mod Faults
 pub mod Format

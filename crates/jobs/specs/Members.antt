@@ -4,16 +4,11 @@
 --     Answers j text      the text has a line for each matrix of the job: member=yes or member=no
 use Rattle.std.specs.Prelude.{◌≡◌, ℕ, Bool, true, false, List, [], ◌∷◌, ◌++◌, pos, codes, Decides}
 use Rattle.modular.specs.Matrix.{M2}
-use Rattle.modular.specs.Actions.{Member, lead}
-use Rattle.modular.specs.Inverses.{back_t, back_s}
-use Rattle.levels.specs.Lines as lines
-use Rattle.levels.specs.Matrices as matrices
-use Rattle.levels.specs.Vectors as vectors
+use Rattle.modular.specs.Actions.{Member}
 use Rattle.numbers.specs.Residues.{Cong}
-use Rattle.origami.specs.Forms.{least}
-use Rattle.origami.specs.Origamis.{sheared_form, turned_form}
 use Rattle.jobs.specs.Jobs.{Task}
-use Rattle.jobs.specs.Objects.{Thing, level, squares}
+use Rattle.jobs.specs.Acting.{of_action}
+use Rattle.jobs.specs.Objects.{Thing}
 use Rattle.jobs.specs.declared.job.Kind.{Kind}
 use Rattle.jobs.specs.declared.job.Kind.TheVariants.{Lines, Vectors, Matrices}
 
@@ -22,17 +17,9 @@ InGroup Lines n m = Cong n m.c (pos 0)
 InGroup Vectors n m = Cong n m.c (pos 0) × Cong n m.d (pos 1)
 InGroup Matrices n m = Cong n m.a (pos 1) × Cong n m.b (pos 0) × Cong n m.c (pos 0) × Cong n m.d (pos 1)
 
--- the members of an action, or of its mirror
-abbrev pub SeenMember : {R : Type 0} → Bool → R → (R → R) → (R → R) → M2 → Type 0
-SeenMember false start t s m = Member start t s m
-SeenMember true start t s m = Member start (lead t s back_t) (lead t s back_s) m
-
 -- the members of the action of a thing, or of its mirror
 abbrev pub ActionMember : Thing → Bool → M2 → Type 0
-ActionMember (level Lines n) b = SeenMember b (vectors.first n) (lines.sheared n) (lines.turned n)
-ActionMember (level Vectors n) b = SeenMember b (vectors.first n) (vectors.sheared n) (vectors.turned n)
-ActionMember (level Matrices n) b = SeenMember b (matrices.first n) (matrices.sheared n) (matrices.turned n)
-ActionMember (squares g) b = SeenMember b (least g) sheared_form turned_form
+ActionMember = of_action (λ R start t s. Member start t s)
 
 abbrev pub IsMember : Task → M2 → Type 0
 IsMember j m = ActionMember j.thing j.mirror m

@@ -4,7 +4,7 @@ use Rattle.modular.specs.Actions.{lead}
 use Rattle.modular.specs.Inverses.{back_t, back_s}
 use Rattle.modular.specs.Matrix.{entries}
 use Rattle.listing.specs.Grown.{GrownOr}
-use Rattle.answers.specs.Answers.{seen_t, seen_s}
+use Rattle.jobs.specs.Acting.{seen_t, seen_s}
 use Rattle.answers.proofs.answer.seen.Goals as goal
 
 pub returns-then-mirror : goal.returns-then-mirror
