@@ -49,7 +49,7 @@ pub extern "C" fn bench_matrices(heap: Global, level: u32, room: usize) -> u64 {
 // Grows an origami, whose squares count from 1, in memory for `room` rows.
 #[unsafe(no_mangle)]
 pub extern "C" fn bench_origami(heap: Global, right: &[u8], up: &[u8], room: usize) -> u64 {
-    squares::origami(heap, right, up)
+    squares::origami(right, up)
         .and_then(|origami| work::grow(heap, origami, room, None))
         .unwrap_or(0)
 }
@@ -57,18 +57,16 @@ pub extern "C" fn bench_origami(heap: Global, right: &[u8], up: &[u8], room: usi
 // Grows the lines of a level, and places random matrices on the table.
 #[unsafe(no_mangle)]
 pub extern "C" fn bench_place(heap: Global, level: u32, room: usize, seed: u64, count: u64) -> u64 {
-    grown(heap, Lines::new(level), room, Some(Placements { seed, count }))
+    grown(
+        heap,
+        Lines::new(level),
+        room,
+        Some(Placements { seed, count }),
+    )
 }
 
 // Takes random steps from an origami, each to a least form.
 #[unsafe(no_mangle)]
-pub extern "C" fn bench_forms(
-    heap: Global,
-    right: &[u8],
-    up: &[u8],
-    seed: u64,
-    count: u64,
-) -> u64 {
-    squares::origami(heap, right, up)
-        .map_or(0, |origami| squares::steps(&origami, seed, count))
+pub extern "C" fn bench_forms(right: &[u8], up: &[u8], seed: u64, count: u64) -> u64 {
+    squares::origami(right, up).map_or(0, |origami| squares::steps(&origami, seed, count))
 }
