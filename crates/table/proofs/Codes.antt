@@ -63,11 +63,5 @@ bit_by (suc n) false l q = omega arith
 pub letter_at_bit : (e : ℕ) → bit (letter_at e) ≡ e % 2
 letter_at_bit e = bit_by (e % 2) (eqb (e % 2) 0) (omega arith) refl
 
-bit_apart : (g k : Letter) → bit g ≡ bit k → g ≡ k
-bit_apart T T e = refl
-bit_apart T S e = absurd (omega arith)
-bit_apart S T e = absurd (omega arith)
-bit_apart S S e = refl
-
 pub edge_of : (e : ℕ) → edge (e / 2) (letter_at e) ≡ e
 edge_of e = omega (arith, edge_bit (e / 2) (letter_at e), letter_at_bit e)

@@ -22,7 +22,6 @@ mod OtherEdges
 mod Outcomes
 mod Pigeons
 mod Placed
-mod Reading
 mod Seeking
 mod SoundRows
 mod SoundTested

@@ -1,11 +1,10 @@
 -- Matrices whose entries are within a limit.
-use Rattle.std.proofs.Common.{◌≡◌, ℕ, ◌≤◌, Bool, true, false, ◌&&◌, leb, List, [], ◌∷◌, ◌++◌, ℤ, pos, negsuc, neg_ℤ, nat_abs, Some, None, Option, sym, refl, ap, ◌∙◌, arith, w64, SFits}
+use Rattle.std.proofs.Common.{◌≡◌, ℕ, ◌≤◌, Bool, true, false, ◌&&◌, leb, List, [], ◌∷◌, ◌++◌, ℤ, pos, negsuc, nat_abs, Some, None, Option, sym, refl, ap, ◌∙◌, arith, w64, SFits}
 use borrow.Author.Differences.{ints}
-use Rattle.std.specs.Bool.{then_some}
 use Rattle.std.specs.Option.{SomeIff}
-use Rattle.std.proofs.lemmas.Bool.{false≢true, and_parts, leb-true, le-leb, and_from}
+use Rattle.std.proofs.lemmas.Bool.{and_parts, leb-true}
 use Rattle.modular.specs.declared.letter.Letter.{Letter}
-use Rattle.modular.specs.Matrix.{M2, Fits, identity, inverted, ◌·◌}
+use Rattle.modular.specs.Matrix.{M2, Fits, identity, ◌·◌}
 use Rattle.modular.specs.Words.{of_letter, matrix}
 use Rattle.modular.proofs.Products.{identity_left, identity_right, product_assoc}
 use Rattle.table.specs.Questions.{within, prefixes}
@@ -24,9 +23,6 @@ within_entries n x h =
     let r = and_parts (leb (nat_abs x.c) n) (leb (nat_abs x.d) n) p.1 in
     record { a = leb-true _ n q.0; b = leb-true _ n q.1; c = leb-true _ n r.0; d = leb-true _ n r.1 }
 
-pub entries_within : (n : ℕ) (x : M2) → Within n x → within n x ≡ true
-entries_within n x h = and_from _ _ (and_from _ _ (le-leb _ n h.a) (le-leb _ n h.b)) (and_from _ _ (le-leb _ n h.c) (le-leb _ n h.d))
-
 -- a number within a thousand million fits
 small_fits : (z : ℤ) (n : ℕ) → nat_abs z ≤ n → n ≤ 1000000000 → SFits w64 z
 small_fits (pos m) n h l = omega (arith, ints)
@@ -36,14 +32,6 @@ pub within_fits : (n : ℕ) (x : M2) → n ≤ 1000000000 → within n x ≡ tru
 within_fits n x l h =
     let w = within_entries n x h in
     record { a = small_fits x.a n w.a l; b = small_fits x.b n w.b l; c = small_fits x.c n w.c l; d = small_fits x.d n w.d l }
-
-same_abs : (z : ℤ) → nat_abs (neg_ℤ z) ≡ nat_abs z
-same_abs z = omega (arith, ints)
-
-pub inverted_within : (n : ℕ) (x : M2) → within n x ≡ true → within n (inverted x) ≡ true
-inverted_within n x h =
-    let w = within_entries n x h in
-    entries_within n (inverted x) (record { a = w.d; b = omega (arith, w.b, same_abs x.b); c = omega (arith, w.c, same_abs x.c); d = w.a })
 
 -- the beginnings of a word, one letter on
 pub prefix_on : (n : ℕ) (x : M2) (g : Letter) (w : List Letter) → within n x ≡ true → prefixes n x (g ∷ w) ≡ prefixes n (x · of_letter g) w
@@ -80,8 +68,3 @@ prefix_whole n w h = ap (within n) (sym (identity_left (matrix w))) ∙ whole_fr
 pub checked_as : {X : Type 0} (r : Option X) (P Q : Type 0) (v w : X) → (P → Q) → (Q → P) → v ≡ w → SomeIff r P v → SomeIff r Q w
 checked_as None P Q v w f g e h = λ q. h (g q)
 checked_as (Some x) P Q v w f g e h = (f h.0, h.1 ∙ e)
-
--- a value that is given where a test passes
-pub tested : {X : Type 0} (b c : Bool) (x v : X) → b ≡ c → x ≡ v → SomeIff (then_some b x) (c ≡ true) v
-tested true c x v e f = (sym e, f)
-tested false c x v e f = λ h. false≢true (e ∙ h)

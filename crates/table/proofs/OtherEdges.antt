@@ -6,10 +6,6 @@ use Rattle.table.specs.declared.link.Link.{Link}
 use Rattle.table.specs.Generators.{is_tree, other_below}
 
 module _ (links : List Link) where
-  -- one edge more, by whether it is a tree edge
-  pub other_tree : (n : ℕ) → is_tree links n ≡ true → other_below links (n + 1) ≡ other_below links n
-  other_tree n e = ap (other_below links) (add-one n) ∙ ap (λ b. cond b (other_below links n) (other_below links n ++ n ∷ [])) e
-
   pub other_more : (n : ℕ) → is_tree links n ≡ false → other_below links (n + 1) ≡ other_below links n ++ n ∷ []
   other_more n e = ap (other_below links) (add-one n) ∙ ap (λ b. cond b (other_below links n) (other_below links n ++ n ∷ [])) e
 

@@ -1,14 +1,12 @@
 -- The word of a row, letter by letter from its end.
-use Rattle.std.proofs.Common.{◌≡◌, ℕ, zero, suc, ◌+◌, ◌-◌, ◌<◌, ◌≤◌, List, [], ◌∷◌, ◌++◌, length, get_or, take, drop, set, Ok, Err, sym, refl, ap, ◌∙◌, inl, inr, append_assoc, arith, take-append-drop}
-use Rattle.std.proofs.lemmas.List.{length-take-le, take_more, drop_more, drop_all, same_from_push, set_at, length_push}
-use Rattle.std.proofs.lemmas.Bool.{cases_eq, lt-ltb, le-leb, lt-leb}
+use Rattle.std.proofs.Common.{◌≡◌, ℕ, zero, suc, ◌+◌, ◌-◌, ◌<◌, List, [], ◌∷◌, ◌++◌, length, get_or, take, drop, set, sym, ap, ◌∙◌, inl, inr, append_assoc, arith}
+use Rattle.std.proofs.lemmas.List.{length-take-le, take_more, drop_more, same_from_push, set_at, length_push}
+use Rattle.std.proofs.lemmas.Bool.{cases_eq}
 use Rattle.modular.specs.declared.letter.Letter.{Letter}
 use Rattle.modular.specs.declared.letter.Letter.TheVariants.{T}
 use Rattle.table.specs.declared.link.Link.{Link}
-use Rattle.table.specs.declared.refusal.Refusal.TheVariants.{Length}
-use Rattle.table.specs.Acting.{spelled, word_of}
+use Rattle.table.specs.Acting.{spelled}
 use Rattle.table.specs.Links.{at}
-use Rattle.table.specs.Questions.{characters, spelling, spell_by}
 use Rattle.table.proofs.SoundRows.{spelled_zero, spelled_row}
 
 module _ (links : List Link) where
@@ -40,20 +38,3 @@ written_before out w k x h l e =
     ∙ ap (λ p. set p k x) (append_assoc (take k out) (get_or out k 0 ∷ []) (drop (k + 1) w))
     ∙ set_at (take k out) (get_or out k 0) (drop (k + 1) w) x k (length-take-le k out (omega arith))
     ∙ ap (λ p. take k out ++ p) (ap (λ y. y ∷ drop (k + 1) w) (sym e) ∙ sym (drop_more w k 0 l))
-
--- before the first write nothing is written, and after the last one the whole word is
-pub written_none : (out w : List ℕ) (n : ℕ) → length out ≤ n → length w ≤ n → out ≡ take n out ++ drop n w
-written_none out w n h l = sym (take-append-drop n out) ∙ ap (λ l. take n out ++ l) (drop_all n out h ∙ sym (drop_all n w l))
-
-pub written_all : (out w : List ℕ) (k : ℕ) → k ≤ 0 → take k out ++ drop k w ≡ w
-written_all out w zero h = refl
-written_all out w (suc k) h = absurd (omega arith)
-
--- spell by the outcome of its tests
-module _ (links : List Link) (r : ℕ) (out : List ℕ) (l : r < length links) where
-  pub spell_short : length out < length (characters (word_of links r)) → spelling links r out ≡ record { answer = Err Length; out = out }
-  spell_short h = λ i. spell_by (lt-ltb r (length links) l i) (lt-leb (length (characters (word_of links r))) (length out) h i) (characters (word_of links r)) out
-
-  pub spell_room : length (characters (word_of links r)) ≤ length out
-      → spelling links r out ≡ record { answer = Ok (length (characters (word_of links r))); out = characters (word_of links r) ++ drop (length (characters (word_of links r))) out }
-  spell_room h = λ i. spell_by (lt-ltb r (length links) l i) (le-leb (length (characters (word_of links r))) (length out) h i) (characters (word_of links r)) out

@@ -52,11 +52,6 @@ counted_most f (suc n) = by (f n) (counted_most f n)
     by true h = omega arith
     by false h = omega arith
 
--- tests that agree below n count the same
-pub counted_same : (f g : ℕ → Bool) (n : ℕ) → ((q : ℕ) → q < n → f q ≡ g q) → counted f n ≡ counted g n
-counted_same f g zero h = refl
-counted_same f g (suc n) h = λ i. cond (h n (omega arith) i) (suc (counted_same f g n (λ q l. h q (omega arith)) i)) (counted_same f g n (λ q l. h q (omega arith)) i)
-
 -- where each number passes f exactly if it passes one of g and h, and never both, the counts add up
 pub record Parts (f g h : ℕ → Bool) (n : ℕ) : Type 0 where
   pub first : (q : ℕ) → q < n → g q ≡ true → (f q ≡ true) × (h q ≡ false)

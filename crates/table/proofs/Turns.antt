@@ -1,15 +1,10 @@
 -- The count of T steps back to a row, one step at a time, on every list of links.
-use Rattle.std.proofs.Common.{◌≡◌, ℕ, zero, suc, ◌+◌, ◌<◌, ◌≤◌, Bool, true, false, cond, eqb, List, length, refl, ap, ◌∙◌, arith, eq-eqb, ne_eqb}
+use Rattle.std.proofs.Common.{◌≡◌, ℕ, zero, suc, ◌+◌, ◌<◌, ◌≤◌, Bool, true, false, cond, eqb, List, length, refl, ap, ◌∙◌, arith, ne_eqb}
 use Rattle.modular.specs.declared.letter.Letter.TheVariants.{T}
 use Rattle.table.specs.declared.link.Link.{Link}
 use Rattle.table.specs.Links.{next}
 use Rattle.std.specs.List.{fold, range_with_len}
 use Rattle.table.specs.Widths.{back, times, width}
-
--- back at the row, the count stands
-pub back_here : (links : List Link) (n q r k : ℕ) → q ≡ r → back links n q r k ≡ k
-back_here links zero q r k e = refl
-back_here links (suc n) q r k e = ap (λ b. cond b k (back links n (next links T q) r (suc k))) (eq-eqb q r e)
 
 -- elsewhere it goes on
 pub back_on : (links : List Link) (n q r k : ℕ) → (q ≡ r → ⊥) → back links (suc n) q r k ≡ back links n (next links T q) r (suc k)

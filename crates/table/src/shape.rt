@@ -1,5 +1,5 @@
 // The shape of a finished table.
-ghost use Rattle.std.specs.Prelude.{◌≡◌};
+ghost use Rattle.std.specs.Prelude.{◌≡◌, ◌≤◌, length};
 ghost use Rattle.table.specs.Shapes.{is_low, cusps, e2, e3, shape};
 
 use crate::links::Links;
@@ -53,14 +53,16 @@ impl<'a> Links<'a> {
 
     // How many T-cycles there are, each counted at its lowest row.
     fn cusps(self) -> usize
-        ensures { result ≡ cusps self.entry.links.now }
+        ensures value { result ≡ cusps self.entry.links.now }
+        ensures most { result ≤ length self.entry.links.now }
     {
         (0..self.rows()).filter(|row| self.is_low(*row)).count()
     }
 
     // How many rows S fixes.
     fn e2(self) -> usize
-        ensures { result ≡ e2 self.entry.links.now }
+        ensures value { result ≡ e2 self.entry.links.now }
+        ensures most { result ≤ length self.entry.links.now }
     {
         (0..self.rows())
             .filter(|row| self.next(Letter::S, *row) == *row)
@@ -69,7 +71,8 @@ impl<'a> Links<'a> {
 
     // How many rows S and then T fix.
     fn e3(self) -> usize
-        ensures { result ≡ e3 self.entry.links.now }
+        ensures value { result ≡ e3 self.entry.links.now }
+        ensures most { result ≤ length self.entry.links.now }
     {
         (0..self.rows())
             .filter(|row| self.s_then_t(*row) == *row)

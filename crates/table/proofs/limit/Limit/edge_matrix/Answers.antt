@@ -1,5 +1,5 @@
 -- The two words of the edge, and the matrix that they leave.
-use Rattle.std.proofs.Common.{◌≡◌, ℕ, Bool, true, ◌&&◌, List, [], ◌∷◌, ◌++◌, ℤ, None, Option, sym, refl, ap, ◌∙◌}
+use Rattle.std.proofs.Common.{◌≡◌, ℕ, Bool, true, ◌&&◌, List, [], ◌∷◌, ◌++◌, ℤ, Option, sym, ap, ◌∙◌}
 use Rattle.std.specs.Option.{SomeIff}
 use Rattle.std.proofs.lemmas.Bool.{and_parts, and_from}
 use Rattle.modular.specs.declared.letter.Letter.{Letter}
@@ -43,25 +43,6 @@ undone-requires c =
       inside = ap (λ m. within c.args.self.most (entries m)) p.1 ∙ prefix_whole c.args.self.most w p.0;
       one = ap (λ m. det (entries m)) p.1 ∙ det_word w;
     }
-
-pub returns-in_err-walked : goal.returns-in_err-walked
-returns-in_err-walked c =
-    let links = c.args.links.links.now in
-    let n = c.args.self.most in
-    let r = c.args.by.row in
-    let g = c.args.by.letter in
-    let q = aim_at links (edge r g) in
-    rw c.from_residual.ensures (told links n r g q refl None (λ h. c.in_err-walked.ensures (and_parts (there links n r g q) _ h).0))
-
-pub returns-in_err-target : goal.returns-in_err-target
-returns-in_err-target c =
-    let links = c.args.links.links.now in
-    let n = c.args.self.most in
-    let r = c.args.by.row in
-    let g = c.args.by.letter in
-    let q = c.aim.result in
-    rw c.from_residual-in_err-target.ensures (told links n r g q c.aim.ensures None
-    (λ h. c.in_err-target.ensures (and_parts (back links n r g q) _ (and_parts (there links n r g q) (back links n r g q && within n (by links n r g q)) h).1).0))
 
 pub returns : goal.returns
 returns c =

@@ -1,14 +1,14 @@
 -- One letter more multiplies on the right, and the first product beyond the limit decides.
-use Rattle.std.proofs.Common.{◌≡◌, ℕ, ◌+◌, ◌<◌, ◌≤◌, true, List, length, get_or, take, drop, sym, refl, ap, ◌∙◌, inl, inr, arith}
-use Rattle.std.proofs.lemmas.List.{take_more, take_all, drop_more, drop_all, get_or-map, length-map}
+use Rattle.std.proofs.Common.{◌≡◌, ℕ, ◌+◌, ◌<◌, true, List, length, get_or, take, drop, sym, ap, ◌∙◌, inl, inr, arith}
+use Rattle.std.proofs.lemmas.List.{take_more, drop_more, get_or-map, length-map}
 use Rattle.std.proofs.lemmas.Bool.{both_ways, cases_Bool}
 use Rattle.modular.specs.declared.letter.Letter.{Letter}
 use Rattle.modular.specs.declared.letter.Letter.TheVariants.{T}
-use Rattle.modular.specs.Matrix.{entries, rows, identity, ◌·◌}
+use Rattle.modular.specs.Matrix.{entries, rows, ◌·◌}
 use Rattle.modular.specs.Words.{matrix, of_letter}
 use Rattle.modular.proofs.Products.{matrix_snoc}
 use Rattle.table.specs.Questions.{letters, prefixes, within, written}
-use Rattle.table.proofs.Limits.{entries_within, prefix_on, prefix_stop}
+use Rattle.table.proofs.Limits.{prefix_on, prefix_stop}
 use Rattle.table.proofs.limit.Limit.word_matrix.Goals as goal
 
 -- the letter at place i is g: the matrix with it, and what is left of the test
@@ -24,9 +24,6 @@ module _ (n : ℕ) (w : List Letter) (i : ℕ) (g : Letter) (l : i < length w) (
 -- the letter that was read
 read : (word : List ℕ) (i : ℕ) (g : Letter) → i < length word → g ≡ written (get_or word i 0) → get_or (letters word) i T ≡ g
 read word i g l e = get_or-map written word i 0 T l ∙ sym e
-
-pub loop-c-init : goal.loop-c-init
-loop-c-init c = (refl, entries_within c.args.self.most identity (record { a = omega (arith, c.args.self.some); b = omega arith; c = omega arith; d = omega (arith, c.args.self.some) }), refl)
 
 pub returns-in_err-m : goal.returns-in_err-m
 returns-in_err-m c =
@@ -52,15 +49,4 @@ loop-c-preserved c =
       c.in_ok-m.ensures.1 ∙ ap rows x,
       sym (ap (within n) x) ∙ c.in_ok-m.ensures.0,
       c.loop-c.invariant.2 ∙ more_prefixes n (letters word) i c.letter_of.result l e c.loop-c.invariant.1,
-    )
-
-pub returns : goal.returns
-returns c =
-    let w = letters c.args.word.now in
-    let n = c.args.self.most in
-    let i = c.loop-c.c-index in
-    let l : length w ≤ i = omega (arith, length-map c.args.word.now written, c.loop-c-test.false) in
-    let a = take_all i w l in (
-      c.loop-c.invariant.2 ∙ ap (prefixes n (matrix (take i w))) (drop_all i w l) ∙ c.loop-c.invariant.1,
-      c.loop-c.invariant.0 ∙ ap (λ v. rows (matrix v)) a,
     )

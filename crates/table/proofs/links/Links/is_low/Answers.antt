@@ -1,14 +1,8 @@
 -- The test is decided at the row or below it, and goes on above it.
 use Rattle.std.proofs.Common.{◌≡◌, suc, ◌+◌, ◌-◌, length, sym, ap, ◌∙◌, arith}
 use Rattle.table.specs.Shapes.{low_from}
-use Rattle.table.proofs.Lowest.{low_stop, low_on}
+use Rattle.table.proofs.Lowest.{low_on}
 use Rattle.table.proofs.links.Links.is_low.Goals as goal
-
-pub returns-then-at-row : goal.returns-then-at-row
-returns-then-at-row c =
-    let links = c.args.self.links.now in
-    let left : length links - c.loop.counter ≡ suc (length links - (c.loop.counter + 1)) = omega arith in
-    sym (ap (λ n. low_from links n c.loop.at c.args.row) left ∙ low_stop links _ c.loop.at c.args.row c.if-at-row.true) ∙ c.loop.invariant
 
 pub loop-preserved : goal.loop-preserved
 loop-preserved c =

@@ -1,21 +1,15 @@
 -- Tree edges are passed over, and the others counted up to the number.
 use Rattle.std.proofs.Common.{◌≡◌, ℕ, ◌*◌, ◌/◌, length, sym, ap, ◌∙◌, arith}
 use Rattle.table.specs.declared.edges.Edge.{Edge}
-use Rattle.table.specs.Generators.{is_tree, other_below}
+use Rattle.table.specs.Generators.{is_tree}
 use Rattle.table.specs.Links.{edge, letter_at}
 use Rattle.table.proofs.Codes.{edge_of}
-use Rattle.table.proofs.OtherEdges.{other_tree, length_more, other_at}
+use Rattle.table.proofs.OtherEdges.{length_more, other_at}
 use Rattle.table.proofs.links.Links.other_edge.Goals as goal
 
 -- the edge with a number has that number
 numbered : (n : ℕ) (x : Edge) → x.row ≡ n / 2 → x.letter ≡ letter_at n → edge x.row x.letter ≡ n
 numbered n x r g = (λ i. edge (r i) (g i)) ∙ edge_of n
-
-pub loop-n-preserved-then-is_tree : goal.loop-n-preserved-then-is_tree
-loop-n-preserved-then-is_tree c =
-    let links = c.args.self.links.now in
-    let e = numbered c.loop-n.n c.numbered-edge.result c.numbered-edge.ensures.row c.numbered-edge.ensures.letter in
-    (ap length (other_tree links c.loop-n.n (ap (is_tree links) (sym e) ∙ sym c.if-is_tree.ensures)) ∙ c.loop-n.invariant.0, omega (arith, c.loop-n.invariant.1), c.loop-n.invariant.2)
 
 pub returns-then-before-number : goal.returns-then-before-number
 returns-then-before-number c =
@@ -30,9 +24,3 @@ loop-n-preserved c =
     let e = numbered c.loop-n.n c.numbered-edge.result c.numbered-edge.ensures.row c.numbered-edge.ensures.letter in
     let l = length_more links c.loop-n.n (ap (is_tree links) (sym e) ∙ sym c.if-is_tree.ensures) in
     (omega (arith, c.loop-n.invariant.0), omega (arith, c.loop-n.invariant.1), omega (arith, c.loop-n.invariant.2, c.if-before-number.false))
-
-pub returns : goal.returns
-returns c =
-    let links = c.args.self.links.now in
-    let e : c.loop-n.n ≡ 2 * length links = omega (arith, c.loop-n-test.false, c.loop-n.auto.n-end) in
-    omega (arith, ap (λ n. length (other_below links n)) e, c.loop-n.invariant.0, c.loop-n.invariant.2)

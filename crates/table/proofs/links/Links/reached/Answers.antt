@@ -1,5 +1,5 @@
 -- A row that is not fair ends the pass, and a fair one leads on with the rows that its edges reach.
-use Rattle.std.proofs.Common.{◌≡◌, ℕ, suc, ◌+◌, ◌-◌, ◌*◌, ◌<◌, true, false, ◌&&◌, eqb, List, length, sym, ap, ◌∙◌, arith}
+use Rattle.std.proofs.Common.{◌≡◌, ℕ, suc, ◌+◌, ◌-◌, ◌*◌, ◌<◌, true, false, ◌&&◌, List, length, sym, ap, ◌∙◌, arith}
 use Rattle.table.specs.declared.link.Link.{Link}
 use Rattle.table.specs.SoundTest.{counted, fair, swept}
 use Rattle.table.proofs.links.Links.reached.Goals as goal
@@ -30,10 +30,3 @@ pub loop-row-preserved : goal.loop-row-preserved
 loop-row-preserved c =
     let told = c.in_ok-reached.ensures in
     sym (swept_on c.args.self.links.now c.loop-row.row c.loop-row.reached (omega arith) c.in_ok-reached.reached told.0 told.1) ∙ c.loop-row.invariant
-
-pub returns : goal.returns
-returns c =
-    let links = c.args.self.links.now in
-    let none : length links - c.loop-row.row ≡ 0 = omega arith in
-    let all : c.loop-row.row ≡ length links = omega arith in
-    sym c.loop-row.invariant ∙ ap (λ k. swept links k c.loop-row.row c.loop-row.reached) none ∙ ap (eqb c.loop-row.reached) all

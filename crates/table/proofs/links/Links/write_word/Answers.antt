@@ -1,23 +1,12 @@
 -- Each turn writes the last letter that is not written yet, and goes to the parent.
 use Rattle.std.proofs.Common.{◌≡◌, ◌+◌, ◌-◌, ◌<◌, ◌++◌, length, get_or, take, drop, set, sym, ap, ◌∙◌, arith}
-use Rattle.std.proofs.lemmas.List.{take_all, get_or-map, length-map}
+use Rattle.std.proofs.lemmas.List.{get_or-map, length-map}
 use Rattle.modular.specs.declared.letter.Letter.TheVariants.{T}
 use Rattle.table.specs.Acting.{spelled, word_of}
 use Rattle.table.specs.Links.{at}
 use Rattle.table.specs.Questions.{character, characters}
-use Rattle.table.proofs.Spelt.{spelled_last, written_before, written_none, written_all}
+use Rattle.table.proofs.Spelt.{spelled_last, written_before}
 use Rattle.table.proofs.links.Links.write_word.Goals as goal
-
-pub loop-k-init : goal.loop-k-init
-loop-k-init c =
-    let links = c.args.self.links.now in
-    let w = word_of links c.args.row in
-    let out = c.args.out.now in
-    let e : c.args.row - (length out - length out) ≡ c.args.row = omega arith in
-    let n = length-map w character in (
-      ap (λ f. spelled links f c.args.row) e ∙ sym (take_all (length out) w (omega (arith, c.requires))),
-      written_none out (characters w) (length out) (omega arith) (omega (arith, n, c.requires)),
-    )
 
 pub loop-k-preserved : goal.loop-k-preserved
 loop-k-preserved c =
@@ -34,8 +23,3 @@ loop-k-preserved c =
       ap (λ o. set o j c.from.result) (c.loop-k.invariant.1 ∙ ap (λ i. take i out ++ drop i (characters w)) e)
           ∙ written_before out (characters w) j c.from.result (omega (arith, c.requires, c.loop-k.auto.k, c.loop-k-test.true)) (omega (arith, l, length-map w character)) x,
     )
-
-pub returns : goal.returns
-returns c =
-    let w = characters (word_of c.args.self.links.now c.args.row) in
-    c.loop-k.invariant.1 ∙ written_all c.args.out.now w c.loop-k.k c.loop-k-test.false
