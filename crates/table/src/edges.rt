@@ -31,6 +31,7 @@ impl Edge {
         requires { number < 131072 }
         ensures row { result.row ≡ number / 2 }
         ensures letter { result.letter ≡ letter_at number }
+        ensures number { edge result.row result.letter ≡ number }
     {
         Edge {
             row: (number / 2) as u16,

@@ -72,23 +72,14 @@ impl Limit {
 }
 
 impl<'a> Links<'a> {
-    // The edge of the generator with a number: edges that are no tree edges count, in their order. A loop, since a closure in
-    // a chain would be asked about any number, and the number of an edge has a bound.
+    // The edge of the generator with a number: edges that are no tree edges count, in their order.
     pub fn other_edge(self, number: usize) -> Option<Edge>
         ensures { MatchOption result (length (other_edges self.entry.links.now) ≤ number)
             (λ e. (number < length (other_edges self.entry.links.now)) × (edge e.row e.letter ≡ edge_of self.entry.links.now number)) }
     {
-        let mut before = 0;
-        for n in 0..2 * usize::from(self.rows()) {
-            let edge = Edge::numbered(n);
-            if edge.is_tree(self) {
-                continue;
-            }
-            if before == number {
-                return Some(edge);
-            }
-            before += 1;
-        }
-        None
+        let n = (0..2 * usize::from(self.rows()))
+            .filter(|n| !Edge::numbered(*n).is_tree(self))
+            .nth(number)?;
+        Some(Edge::numbered(n))
     }
 }
