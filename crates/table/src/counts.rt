@@ -2,7 +2,8 @@
 
 ghost use Rattle.std.specs.Prelude.{◌≡◌, ◌&&◌, ◌==◌};
 
-// The rows and the links lent at open, the rows held, and the edges filled.
+// The rows and the links lent at open, the rows held, and the edges filled. Counts of their own, since the memory is the
+// caller's, who lends it at each call.
 #[derive(Clone, Copy, Debug, PartialEq, Eq)]
 pub struct Counts {
     pub size: usize,

@@ -8,7 +8,8 @@ use modular::letter::Letter;
 // No row: the edge is not filled yet. A link has a fixed size, so this number stands for none; `target` tells it as an option.
 pub const EMPTY: u16 = 65_535;
 
-// Where the two edges of a row lead, and the edge by which the row was first reached.
+// Where the two edges of a row lead, and the edge by which the row was first reached. Rows are told by their numbers, since
+// links are stored, and read again, as they are.
 #[derive(Clone, Copy, Debug, PartialEq, Eq)]
 pub struct Link {
     pub t: u16,
