@@ -8,7 +8,8 @@ use jobs::reply::{Reply, declined};
 use listing::error::Error as Unlisted;
 use std::alloc::{AllocError, Global};
 
-// What is printed where there is no listing: the table's refusal, with its place, which is no line.
+// What is printed where there is no listing: the table's refusal, with its place, which is no line. A refusal of a job prints itself
+// so; one of a table prints a text for people, so its number and place are written here.
 fn unlisted(heap: Global, error: Unlisted) -> Result<Reply, AllocError>
     ensures { IfOk result (NamesRefusal error) }
 {

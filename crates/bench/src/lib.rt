@@ -22,10 +22,9 @@ fn grown<A: Action + Drop>(
     room: usize,
     placements: Option<Placements>,
 ) -> u64 {
-    let Ok(action) = made else {
-        return 0;
-    };
-    work::grow(heap, action, room, placements).unwrap_or(0)
+    made.ok()
+        .and_then(|action| work::grow(heap, action, room, placements))
+        .unwrap_or(0)
 }
 
 // Grows the lines of a level in memory for `room` rows.

@@ -35,10 +35,8 @@ impl<A: Action> Memory<A> {
     where
         A: Drop,
     {
-        match Growing::open(action, &mut self.rows, &mut self.links) {
-            Ok(table) => Ok(table),
-            Err((_, refusal)) => Err(refusal.into()),
-        }
+        let opened = Growing::open(action, &mut self.rows, &mut self.links);
+        Ok(opened.map_err(|(_, refusal)| refusal)?)
     }
 
     // Fills a table until it declines, and answers how many fills it accepted. By fills and not by `fill_up`, since the count is
@@ -59,9 +57,7 @@ impl<A: Action> Memory<A> {
     {
         let mut table = self.open(action)?;
         self.fill(&mut table);
-        match table.close(&self.rows, &self.links) {
-            Ok(finished) => Ok(finished),
-            Err((_, refusal)) => Err(refusal.into()),
-        }
+        let closed = table.close(&self.rows, &self.links);
+        Ok(closed.map_err(|(_, refusal)| refusal)?)
     }
 }

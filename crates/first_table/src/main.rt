@@ -1,7 +1,6 @@
 // A first program over the library: the table of the lines of level 6.
 #![tactic(auto)]
 
-use anyhow::anyhow;
 use levels::lines::Lines;
 use levels::vectors::Vector;
 use modular::action::Action;
@@ -21,9 +20,7 @@ fn report<A: Action + Drop>(
 ) -> anyhow::Result<()> {
     table.fill_up(rows, links);
     let reached = table.follow(rows, links, "ST");
-    let Ok(finished) = table.close(rows, links) else {
-        return Err(anyhow!("the table needs more rows"));
-    };
+    let finished = table.close(rows, links).map_err(|(_, refusal)| refusal)?;
     let row = finished.place([[5, 2], [12, 5]]);
     println!(rt;
         "{} rows, {} cusps",
@@ -38,8 +35,9 @@ fn report<A: Action + Drop>(
 fn main(rt: HostRuntime) -> anyhow::Result<()> {
     let mut rows = [Vector { c: 0, d: 0 }; ROOM];
     let mut links = [Link::empty(0, Letter::T); ROOM];
-    match Growing::open(Lines::new(6)?, &mut rows, &mut links) {
-        Ok(table) => report(&rt, table, &mut rows, &mut links),
-        Err((_, refusal)) => Err(refusal.into()),
-    }
+    let table = Growing::open(Lines::new(6)?, &mut rows, &mut links).map_err(|(
+        _,
+        refusal,
+    )| refusal)?;
+    report(&rt, table, &mut rows, &mut links)
 }

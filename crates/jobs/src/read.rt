@@ -23,7 +23,7 @@ fn on_line<T>(line: usize, read: Result<T, Fault>) -> Result<T, Refusal>
     read.map_err(|fault| Refusal { fault, line })
 }
 
-// The same where memory may have run out.
+// The same where memory may have run out. A function of its own, since an error of a line holds its fault deeper.
 fn made_on_line<T>(line: usize, made: Result<T, LineError>) -> Result<T, Error>
     ensures { result ≡ made_on_line line made }
 {
@@ -40,7 +40,8 @@ fn object_at(kind: Kind, level: u32) -> Result<Object, Fault>
     Ok(Object::new(kind, level)?)
 }
 
-// The matrix lines that make up the rest of a text, of which the first is line `first`.
+// The matrix lines that make up the rest of a text, of which the first is line `first`. Each is read at the front of what is left,
+// so there is no index and nothing to iterate over.
 fn matrix_lines(heap: Global, first: usize, text: &[u8]) -> Result<Vec<Matrix>, Error>
     requires { first ≤ 5 }
     ensures { ReadsMatrices first text.now result }

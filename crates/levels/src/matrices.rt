@@ -15,6 +15,7 @@ pub struct Matrices {
     level: Level,
 }
 
+// Each action of this crate names its own definitions, so what its impl says is alike in form alone.
 impl Action for Matrices {
     type Record = Square;
 

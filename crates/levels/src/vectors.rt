@@ -19,6 +19,7 @@ pub struct Vectors {
     pub(crate) level: Level,
 }
 
+// Each action of this crate names its own definitions, so what its impl says is alike in form alone.
 impl Action for Vectors {
     type Record = Vector;
 

@@ -13,7 +13,8 @@ use std::alloc::Global;
 use table::growing::Growing;
 use table::link::Link;
 
-// Fills a table that was just opened, closes it, and lists it.
+// Fills a table that was just opened, closes it, and lists it. Taken apart here and below: under `map_err`, which was tried, the
+// proof did not close.
 fn finish<A: Action + Drop>(
     heap: Global,
     mut table: Growing<A>,
@@ -46,6 +47,7 @@ fn grow<A: Action + Drop>(
     }
 }
 
+// The crate `table` takes no memory from the heap, so whoever grows a table in memory of its own makes these two lists.
 // The listing of the whole table of an action, grown in memory for so many rows, with a line for each matrix.
 pub fn list<A: Action + Drop>(
     heap: Global,

@@ -72,7 +72,8 @@ pub fn generator_line(text: &mut String, table: &Finished, number: usize) -> Res
     }
 }
 
-// Whether a matrix at a row is a member: the members are at row 0.
+// Whether a matrix at a row is a member: the members are at row 0. `jobs` prints the same words for members told by congruences;
+// neither crate stands on the other.
 pub fn member_line(text: &mut String, row: u16) -> Result<(), AllocError>
     ensures { OnOk result (string_bytes text.new ≡ string_bytes text.old ++ member_line row) }
 {

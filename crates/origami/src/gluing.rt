@@ -24,7 +24,8 @@ impl Gluing {
         self.right[square] < self.degree && self.up[square] < self.degree
     }
 
-    // The same gluing, if there are 1 to 16 squares, and all neighbours are squares.
+    // The same gluing, if there are 1 to 16 squares, and all neighbours are squares. A loop: `all` was tried, and the proof did not
+    // close.
     pub(crate) fn enclosed(self) -> Option<Enclosed>
         ensures { MatchOption result (inside self ≡ false) (λ e. (inside self ≡ true) × (e.gluing ≡ self)) }
     {

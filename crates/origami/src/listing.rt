@@ -7,7 +7,8 @@ ghost use Rattle.origami.specs.declared.refusal.Refusal.TheVariants.{NotPermutat
 use crate::gluing::{Enclosed, Gluing};
 use crate::refusal::Refusal;
 
-// The squares of a list, counted from 0, if it lists 1 to `degree` once each. Arrays of 16, as a gluing holds them.
+// The squares of a list, counted from 0, if it lists 1 to `degree` once each. Arrays of 16, since no
+// call of an origami takes memory from the heap.
 fn permutation(list: &[u32], degree: usize) -> Result<[u8; 16], Refusal>
     requires { degree ≤ 16 }
     ensures { MatchResult result (λ a. Lists degree list.now × (a ≡ padded degree (target list.now))) (λ e. (e ≡ NotPermutation) × (Lists degree list.now → ⊥)) }

@@ -26,7 +26,7 @@ impl Edge {
         }
     }
 
-    // The edge with a number.
+    // The edge with a number. The rules of the project number edges so, even for T and odd for S.
     pub fn numbered(number: usize) -> Edge
         requires { number < 131072 }
         ensures row { result.row ≡ number / 2 }

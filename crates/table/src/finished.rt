@@ -9,7 +9,8 @@ pub mod acting;
 mod maker;
 mod questions;
 
-// That the links are sound is in the type: a value of it is only made where they passed the test.
+// That the links are sound is in the type: a value of it is only made where they passed the test. Plain links and no `Links`,
+// since the promises of its calls are told by them, also to the crates above.
 #[derive(Clone, Copy)]
 pub struct Finished<'a> {
     links: &'a [Link],

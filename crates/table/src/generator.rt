@@ -35,7 +35,8 @@ impl Limit {
         Some(m)
     }
 
-    // The matrix of a row's word.
+    // The matrix of a row's word. Its letters are found from the last, and multiplied from the first; the buffer is an array since
+    // no call of a table takes memory from the heap.
     fn row_matrix(self, links: Links, row: u16) -> Option<Matrix>
         ensures { SomeIff result (prefixes self.most identity (word_of links.entry.links.now row) ≡ true) (rows (matrix (word_of links.entry.links.now row))) }
     {

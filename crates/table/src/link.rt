@@ -46,7 +46,7 @@ impl Link {
         ensures { result ≡ target_of letter self }
     {
         let row = self.aim(letter);
-        if row == EMPTY { None } else { Some(row) }
+        (row != EMPTY).then_some(row)
     }
 
     // The same link, but the edge of a letter leads to a row.

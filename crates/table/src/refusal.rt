@@ -33,7 +33,7 @@ pub enum Refusal {
 }
 
 impl Refusal {
-    // The number under which the refusal is known outside.
+    // The number under which the refusal is known outside, which the rules of the project fix.
     pub fn number(self) -> u8
         ensures { result ≡ number_of self }
     {
@@ -58,8 +58,7 @@ impl Refusal {
         ensures { result ≡ place_of self }
     {
         match self {
-            Refusal::NotALetter(at) => at,
-            Refusal::EmptyEdge(at) => at,
+            Refusal::NotALetter(at) | Refusal::EmptyEdge(at) => at,
             _ => 0,
         }
     }

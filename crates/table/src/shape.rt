@@ -51,7 +51,8 @@ impl<'a> Links<'a> {
         true
     }
 
-    // How many T-cycles there are, each counted at its lowest row.
+    // How many T-cycles there are, each counted at its lowest row. A chain here and twice below: one function over the test would
+    // need a clause on each closure, and is no shorter.
     fn cusps(self) -> usize
         ensures value { result ≡ cusps self.entry.links.now }
         ensures most { result ≤ length self.entry.links.now }

@@ -22,8 +22,8 @@ impl<'a> Links<'a> {
         usize::from(row)
     }
 
-    // Writes the word of a row into an output of just its length, the last letter first. It goes by places, since what is
-    // written so far is told by them.
+    // Writes the word of a row into an output of just its length, the last letter first. It goes by places: under
+    // `iter_mut().rev()`, which was tried, the proof did not close, as nothing told what is written so far.
     pub fn write_word(self, row: u16, out: &mut [u8])
         requires { length out.old ≡ length (word_of self.links.now row) }
         ensures { out.new ≡ characters (word_of self.entry.links.now row) }

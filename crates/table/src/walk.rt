@@ -11,7 +11,8 @@ use modular::letter::Letter;
 // The longest word that is followed, in letters.
 pub const LONGEST: usize = 1000;
 
-// The row to which the edge of a letter leads, if that is one of the first `count`.
+// The row to which the edge of a letter leads, if that is one of the first `count`. A rule of the project: the target of an edge is
+// an option, which follow takes apart, here and where it names the letter at fault.
 fn leads_to(count: usize, letter: Letter, link: Link) -> Option<u16>
     ensures { result ≡ leads_to count letter link }
 {

@@ -1,21 +1,14 @@
 // A finished table from a stored list of links.
-ghost use Rattle.std.specs.Prelude.{◌≡◌, ◌&&◌, Ok, Err, MatchResult, nat_le, nat_lt};
+ghost use Rattle.std.specs.Prelude.{◌≡◌, Ok, Err, MatchResult};
 ghost use Rattle.table.specs.Finished.{SoundLinksLaw};
 ghost use Rattle.table.specs.Runs.{EveryStoredList, storing};
 ghost use Rattle.table.specs.SoundTest.{SoundTestTells};
 
 use crate::finished::Finished;
-use crate::growing::MOST;
+use crate::growing::storable;
 use crate::link::Link;
 use crate::links::Links;
 use crate::refusal::Refusal;
-
-// Whether so many links can be stored as a table.
-fn storable(count: usize) -> bool
-    ensures { result ≡ (nat_lt 0 count && nat_le count 65000) }
-{
-    0 < count && count <= MOST
-}
 
 impl<'a> Finished<'a> {
     // The table of 1 to 65,000 sound links; any other list is declined. The refusal is told as the caller's own error.

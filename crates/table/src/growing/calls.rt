@@ -8,7 +8,7 @@ use crate::counts::{Counts, Filled};
 use crate::edges::Edge;
 use crate::finished::Finished;
 use crate::growing::rows::sought;
-use crate::growing::{Growing, MOST};
+use crate::growing::{Growing, storable};
 use crate::link::Link;
 use crate::links::Links;
 use crate::refusal::Refusal;
@@ -20,7 +20,7 @@ use modular::letter::Letter;
 fn lendable(rows: usize, links: usize) -> bool
     ensures { result ≡ lendable rows links }
 {
-    0 < rows && rows <= MOST && rows == links
+    storable(rows) && rows == links
 }
 
 impl<A: Action> Growing<A> {
