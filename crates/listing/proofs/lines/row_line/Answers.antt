@@ -1,11 +1,7 @@
 -- The word of a row fits the output, and is written as it is spelled.
-use Rattle.std.proofs.Common.{IsAscii, sym, ap, ◌∙◌, subst}
-use Rattle.modular.specs.declared.letter.Letter.TheVariants.{T, S}
+use Rattle.std.proofs.Common.{IsAscii, sym, subst}
 use Rattle.table.specs.Acting.{word_of}
-use Rattle.table.specs.Links.{next}
-use Rattle.listing.specs.Lines.{word_field}
 use Rattle.listing.proofs.Words.{ascii_word, spell_ok, spell_word}
-use Rattle.listing.proofs.Written.{added, row_written}
 use Rattle.listing.proofs.lines.row_line.Goals as goal
 
 pub unwrap-count-requires : goal.unwrap-count-requires

@@ -1,6 +1,5 @@
 -- One generator more is one line more, and before the last there are as many as rows.
-use Rattle.std.proofs.Common.{◌≡◌, ◌+◌, ◌++◌, length, string_bytes, subst, arith}
-use Rattle.listing.specs.Lines.{each, generator_line}
+use Rattle.listing.specs.Lines.{generator_line}
 use Rattle.listing.proofs.Turns.{each_more}
 use Rattle.listing.proofs.parts.generators.Goals as goal
 
