@@ -8,9 +8,11 @@ use table::refusal::Refusal;
 
 // A matrix is declined, by the table's refusal, or memory ran out. The errors of `jobs` have the same shape, but other things
 // convert into them: of a generic one only this enum would be shared.
-#[derive(Clone, Copy)]
+#[derive(Clone, Copy, Debug, thiserror::Error)]
 pub enum Error {
+    #[error("the table declines: {0}")]
     Declined(Refusal),
+    #[error("out of memory")]
     Memory,
 }
 

@@ -44,26 +44,18 @@ fn listed<E: From<Refusal> + From<Error>>(heap: Global, matrices: &[Matrix]) -> 
 
 #[test]
 fn lines_of_level_2(rt: HostRuntime) -> Result<(), Fail> {
-    match listed::<Error>(rt.alloc(), &[[[1, 0], [2, 1]], [[1, 0], [1, 1]]]) {
-        Ok(text) => {
-            assert_eq!(rt; text.as_str(), LISTING);
-            Ok(())
-        },
-        Err(_) => Err(Fail::new("no listing")),
-    }
+    let text = listed::<Error>(rt.alloc(), &[[[1, 0], [2, 1]], [[1, 0], [1, 1]]])?;
+    assert_eq!(rt; text.as_str(), LISTING);
+    Ok(())
 }
 
 #[test]
-fn first_declined_matrix(rt: HostRuntime) -> Result<(), Fail> {
-    match listed::<Error>(
-        rt.alloc(),
-        &[
-            [[1, 0], [2, 1]],
-            [[1, 0], [0, 2]],
-            [[1_000_000_001, 0], [0, 1]],
-        ],
-    ) {
-        Err(Error::Declined(Refusal::Determinant)) => Ok(()),
-        _ => Err(Fail::new("another answer")),
-    }
+fn first_declined_matrix(rt: HostRuntime) {
+    let matrices = [
+        [[1, 0], [2, 1]],
+        [[1, 0], [0, 2]],
+        [[1_000_000_001, 0], [0, 1]],
+    ];
+    let refused = listed::<Error>(rt.alloc(), &matrices);
+    assert!(rt; matches!(refused, Err(Error::Declined(Refusal::Determinant))));
 }
