@@ -53,7 +53,7 @@ fn grow_in<A: Action + Drop>(
     Some(sum.value())
 }
 
-// The same in memory for `room` rows that is had from the heap.
+// The same in memory for `room` rows that is had from the heap. The crate `table` takes none, so the two lists are made here and lent.
 pub fn grow<A: Action + Drop>(
     heap: Global,
     action: A,

@@ -9,7 +9,7 @@ use table::link::Link;
 // More than the edges of any table.
 const MANY: usize = 130_001;
 
-// Rows and links that are lent to a table of an action.
+// Rows and links that are lent to a table of an action: the crate `table` takes no memory from the heap.
 #[derive(Drop)]
 pub struct Memory<A: Action> {
     pub rows: Vec<A::Record>,

@@ -11,7 +11,7 @@ use table::link::Link;
 // Rows and links belong to this program; the table is grown in them.
 const ROOM: usize = 20;
 
-// Fills a table, finishes it, and asks it some questions.
+// Fills a table, finishes it, and asks it some questions. Rows and links are handed on as they are lent, each of its own size.
 fn report<A: Action + Drop>(
     rt: &HostRuntime,
     mut table: Growing<A>,
@@ -35,9 +35,7 @@ fn report<A: Action + Drop>(
 fn main(rt: HostRuntime) -> anyhow::Result<()> {
     let mut rows = [Vector { c: 0, d: 0 }; ROOM];
     let mut links = [Link::empty(0, Letter::T); ROOM];
-    let table = Growing::open(Lines::new(6)?, &mut rows, &mut links).map_err(|(
-        _,
-        refusal,
-    )| refusal)?;
+    let opened = Growing::open(Lines::new(6)?, &mut rows, &mut links);
+    let table = opened.map_err(|(_, refusal)| refusal)?;
     report(&rt, table, &mut rows, &mut links)
 }

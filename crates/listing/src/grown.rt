@@ -47,8 +47,8 @@ fn grow<A: Action + Drop>(
     }
 }
 
-// The crate `table` takes no memory from the heap, so whoever grows a table in memory of its own makes these two lists.
-// The listing of the whole table of an action, grown in memory for so many rows, with a line for each matrix.
+// The listing of the whole table of an action, grown in memory for so many rows, with a line for each matrix. The crate `table` takes
+// no memory from the heap, so whoever grows a table in memory of its own makes two such lists, and lends them on.
 pub fn list<A: Action + Drop>(
     heap: Global,
     action: A,

@@ -12,7 +12,7 @@ use modular::letter::Letter;
 pub const LONGEST: usize = 1000;
 
 // The row to which the edge of a letter leads, if that is one of the first `count`. A rule of the project: the target of an edge is
-// an option, which follow takes apart, here and where it names the letter at fault.
+// an option, which follow takes apart, here and where it names the place at fault; the letter before it is taken apart alike.
 fn leads_to(count: usize, letter: Letter, link: Link) -> Option<u16>
     ensures { result ≡ leads_to count letter link }
 {
