@@ -51,8 +51,9 @@ impl From<OrigamiRefusal> for Answer {
 impl From<Refusal> for Answer {
     fn from(refusal: Refusal) -> Answer {
         match refusal {
-            Refusal::NotALetter(place) => Answer::DeclinedAt(refusal.number(), place),
-            Refusal::EmptyEdge(place) => Answer::DeclinedAt(refusal.number(), place),
+            Refusal::NotALetter(place) | Refusal::EmptyEdge(place) => {
+                Answer::DeclinedAt(refusal.number(), place)
+            }
             _ => Answer::Declined(refusal.number()),
         }
     }
