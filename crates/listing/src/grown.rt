@@ -48,7 +48,8 @@ fn grow<A: Action + Drop>(
 }
 
 // The listing of the whole table of an action, grown in memory for so many rows, with a line for each matrix. The crate `table` takes
-// no memory from the heap, so whoever grows a table in memory of its own makes two such lists, and lends them on.
+// no memory from the heap, so whoever grows a table in memory of its own makes two such lists, and lends them on. Records are
+// copied and not cloned, as everywhere else: a record's `clone` may fail.
 pub fn list<A: Action + Drop>(
     heap: Global,
     action: A,
@@ -57,7 +58,9 @@ pub fn list<A: Action + Drop>(
 ) -> Result<String, Error>
     ensures { GrownOr (A.start action) (A.step_t action) (A.step_s action) room (map entries matrices.now) result }
 {
-    let mut rows = vec![in heap; action.first(); room]?;
+    let first = action.first();
+    let mut rows = Vec::new(heap);
+    rows.resize_with(room, || first)?;
     let mut links = vec![in heap; Link::empty(0, Letter::T); room]?;
     grow(heap, action, &mut rows, &mut links, matrices)
 }

@@ -29,23 +29,18 @@ given None false x h = refl
 given (Some y) true x h = ap Ok h.1
 given (Some y) false x h = absurd (false≢true h.0)
 
-module _ (links : List Link) (good : sound links ≡ true) (k limit : ℕ) where
-  -- there are as many edges that are no tree edges as generators
-  others : length (other_edges links) ≡ length links + 1
-  others = sym (length-map (other_edges links) (generator_at links)) ∙ generators_count links ((sound_tells links).0 good)
+module _ (links : List Link) (k limit : ℕ) where
+  -- past the generators there is none
+  pub none_there : length links < k → generating links k limit ≡ Err NoSuch
+  none_there h = ap (λ b. generate_by b (ltb 0 limit && leb limit 1000000000) (narrow links limit (edge_of links k)) (generator_at links (edge_of links k))) (le-ltb k (length links + 1) (omega arith))
 
-  pub none_there : length (other_edges links) ≤ k → generating links k limit ≡ Err NoSuch
-  none_there h =
-      let l = others in
-      ap (λ b. generate_by b (ltb 0 limit && leb limit 1000000000) (narrow links limit (edge_of links k)) (generator_at links (edge_of links k))) (le-ltb k (length links + 1) (omega arith))
+  pub no_limit : k ≤ length links → (ltb 0 limit && leb limit 1000000000) ≡ false → generating links k limit ≡ Err Range
+  no_limit h e = λ i. generate_by (lt-ltb k (length links + 1) (omega arith) i) (e i) (narrow links limit (edge_of links k)) (generator_at links (edge_of links k))
 
-  pub no_limit : k < length (other_edges links) → (ltb 0 limit && leb limit 1000000000) ≡ false → generating links k limit ≡ Err Range
-  no_limit h e =
-      let l = others in
-      λ i. generate_by (lt-ltb k (length links + 1) (omega arith) i) (e i) (narrow links limit (edge_of links k)) (generator_at links (edge_of links k))
-
-  pub by_entries : k < length (other_edges links) → (ltb 0 limit && leb limit 1000000000) ≡ true
+  pub by_entries : k ≤ length links → (ltb 0 limit && leb limit 1000000000) ≡ true
       → generating links k limit ≡ generate_by true true (narrow links limit (edge_of links k)) (generator_at links (edge_of links k))
-  by_entries h e =
-      let l = others in
-      λ i. generate_by (lt-ltb k (length links + 1) (omega arith) i) (e i) (narrow links limit (edge_of links k)) (generator_at links (edge_of links k))
+  by_entries h e = λ i. generate_by (lt-ltb k (length links + 1) (omega arith) i) (e i) (narrow links limit (edge_of links k)) (generator_at links (edge_of links k))
+
+-- sound links have one edge more that is no tree edge than rows
+pub others : (links : List Link) → sound links ≡ true → length (other_edges links) ≡ length links + 1
+others links good = sym (length-map (other_edges links) (generator_at links)) ∙ generators_count links ((sound_tells links).0 good)

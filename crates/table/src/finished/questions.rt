@@ -43,12 +43,15 @@ impl<'a> Finished<'a> {
     }
 
     // The generator with a number, counted from 0, with no entry on the way or in the result beyond the limit: there is one
-    // more than there are rows.
+    // more than there are rows. What declines the number or the limit is told before the edges are gone through.
     pub fn generator(&self, number: usize, limit: u64) -> Result<Matrix, Refusal>
         ensures { result ≡ in_rows (generating self.now.links.now number limit) }
     {
-        let edge = self.read().other_edge(number).ok_or(Refusal::NoSuch)?;
+        if number > self.links.len() {
+            return Err(Refusal::NoSuch);
+        }
         let limit = Limit::new(limit)?;
+        let edge = self.read().other_edge(number).ok_or(Refusal::NoSuch)?;
         limit.edge_matrix(self.read(), edge).ok_or(Refusal::Wide)
     }
 
