@@ -49,7 +49,7 @@ fn grow<A: Action + Drop>(
 
 // The listing of the whole table of an action, grown in memory for so many rows, with a line for each matrix. The crate `table` takes
 // no memory from the heap, so whoever grows a table in memory of its own makes two such lists, and lends them on. Records are
-// copied and not cloned, as everywhere else: a record's `clone` may fail.
+// copied and not cloned, as in the crate `table`: a record's `clone` may fail.
 pub fn list<A: Action + Drop>(
     heap: Global,
     action: A,

