@@ -42,7 +42,7 @@ impl<'a> Links<'a> {
     }
 
     // S four times leads back, and S and then T, three times over, leads where S twice does. S four times comes first: with it
-    // last, the test of stored links was seen to take up to a third more time.
+    // last, the test of stored links was seen to take a tenth to a quarter more time.
     fn is_lawful(self, row: u16) -> bool
         ensures { result ≡ lawful self.entry.links.now row }
     {
